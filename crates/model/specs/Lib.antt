@@ -1,0 +1,7 @@
+pub mod Limits
+pub mod Firsts
+pub mod Boxes
+pub mod Rows
+pub mod Drafts
+pub mod Points
+pub mod Laws

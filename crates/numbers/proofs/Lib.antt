@@ -1,0 +1,15 @@
+pub mod Laws
+pub mod Ring
+pub mod Order
+pub mod Examples
+pub mod Division
+pub mod Sums
+pub mod Splits
+pub mod Magnitudes
+pub mod Products
+pub mod Enclosures
+pub mod Squares
+pub mod Quotients
+pub mod Held
+pub mod Characters
+pub mod Cuts

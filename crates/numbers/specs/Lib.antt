@@ -1,0 +1,5 @@
+pub mod Division
+pub mod Magnitudes
+pub mod Sums
+pub mod Ranges
+pub mod Laws
