@@ -1,5 +1,6 @@
 -- Refusals: the number, the place and the layer of each.
 use Prim.Native.Nat.{ℕ}
+use mathlib.Core.Path.{_≡_}
 use Rattle.narrower.specs.declared.faults.Layer.{Layer}
 use Rattle.narrower.specs.declared.faults.Layer.the-variants as layer
 use Rattle.narrower.specs.declared.faults.Place.{Place}
@@ -13,6 +14,20 @@ use Rattle.narrower.specs.declared.faults.ProposalFault.the-variants.{Weights,
 use Rattle.narrower.specs.declared.faults.PlacementFault.{PlacementFault}
 use Rattle.narrower.specs.declared.faults.PlacementFault.the-variants.{Size, BadSpan, BadRow, OtherSize, NotMade, AlreadyMade, AtNone, Proposal}
 
+-- the number of a narrower's refusal
+abbrev pub narrowNumber : NarrowFault → ℕ
+narrowNumber narrow.Length = 14
+narrowNumber (narrow.BadSpan k) = 12
+
+-- its place: the first bad span, from 1, or 0
+abbrev pub narrowPlace : NarrowFault → Place
+narrowPlace narrow.Length = Entry 0
+narrowPlace (narrow.BadSpan k) = Entry k
+
+-- its layer
+abbrev pub narrowLayer : NarrowFault → Layer
+narrowLayer e = layer.Placement
+
 -- the number of a factoring's refusal
 abbrev pub factorNumber : FactorFault → ℕ
 factorNumber (NoPivot s i) = 18
@@ -24,6 +39,10 @@ abbrev pub factorPlace : FactorFault → Place
 factorPlace (NoPivot s i) = Step s i
 factorPlace (Steep s i) = Step s i
 factorPlace (Large s i) = Step s i
+
+-- its layer
+abbrev pub factorLayer : FactorFault → Layer
+factorLayer e = layer.Factoring
 
 -- the number of a proposal's refusal
 abbrev pub proposalNumber : ProposalFault → ℕ
@@ -44,7 +63,7 @@ abbrev pub proposalLayer : ProposalFault → Layer
 proposalLayer (Weights k) = layer.Proposal
 proposalLayer (AbsentEnd k) = layer.Proposal
 proposalLayer (Order k) = layer.Proposal
-proposalLayer (Factor e) = layer.Factoring
+proposalLayer (Factor e) = factorLayer e
 
 -- the number of a placement's refusal
 abbrev pub placementNumber : PlacementFault → ℕ
@@ -83,3 +102,10 @@ placementLayer AtNone = layer.Placement
 abbrev pub raised : NarrowFault → PlacementFault
 raised narrow.Length = OtherSize
 raised (narrow.BadSpan k) = BadSpan k
+
+-- the refusal of a layer and the same refusal passed up have one number, one place and one layer
+abbrev pub Refusals-pass-up-whole : Type 0
+Refusals-pass-up-whole =
+    ((e : NarrowFault) → (placementNumber (raised e) ≡ narrowNumber e) × (placementPlace (raised e) ≡ narrowPlace e) × (placementLayer (raised e) ≡ narrowLayer e))
+    × ((e : FactorFault) → (proposalNumber (Factor e) ≡ factorNumber e) × (proposalPlace (Factor e) ≡ factorPlace e) × (proposalLayer (Factor e) ≡ factorLayer e))
+    × ((e : ProposalFault) → (placementNumber (Proposal e) ≡ proposalNumber e) × (placementPlace (Proposal e) ≡ proposalPlace e) × (placementLayer (Proposal e) ≡ proposalLayer e))

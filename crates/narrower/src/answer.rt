@@ -16,7 +16,7 @@ pub enum Answer {
 
 impl Answer {
     /// 1, 2 or 3.
-    pub fn number(self) -> u8
+    pub fn number(self) -> u16
         ensures { λ r. ⌜ r ≡ answerNumber self ⌝ }
     {
         match self {

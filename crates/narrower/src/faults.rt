@@ -3,7 +3,7 @@
 ghost use mathlib.Core.Path.{_≡_};
 ghost use Rattle.narrower.specs.declared.faults.ProposalFault.the-variants.{Factor};
 ghost use Rattle.narrower.specs.declared.faults.PlacementFault.the-variants.{Proposal};
-ghost use Rattle.narrower.specs.Faults.{factorNumber, factorPlace, proposalNumber, proposalPlace, proposalLayer, placementNumber, placementPlace, placementLayer, raised};
+ghost use Rattle.narrower.specs.Faults.{Refusals-pass-up-whole, narrowNumber, narrowPlace, narrowLayer, factorLayer, factorNumber, factorPlace, proposalNumber, proposalPlace, proposalLayer, placementNumber, placementPlace, placementLayer, raised};
 
 /// Which layer refused.
 #[derive(Clone, Copy, PartialEq, Eq, Debug)]
@@ -104,9 +104,38 @@ pub impl From<ProposalFault> for PlacementFault as PlacementFromProposal {
     }
 }
 
+impl NarrowFault {
+    /// The refusal's number.
+    pub fn number(self) -> u16
+        ensures { λ r. ⌜ r ≡ narrowNumber self ⌝ }
+    {
+        match self {
+            NarrowFault::Length => 14,
+            NarrowFault::BadSpan(_) => 12,
+        }
+    }
+
+    /// The first bad span, from 1, or 0.
+    pub fn place(self) -> Place
+        ensures { λ r. ⌜ r ≡ narrowPlace self ⌝ }
+    {
+        match self {
+            NarrowFault::Length => Place::Entry(0),
+            NarrowFault::BadSpan(place) => Place::Entry(place),
+        }
+    }
+
+    /// The layer that refused.
+    pub fn layer(self) -> Layer
+        ensures { λ r. ⌜ r ≡ narrowLayer self ⌝ }
+    {
+        Layer::Placement
+    }
+}
+
 impl FactorFault {
     /// The refusal's number.
-    pub fn number(self) -> u8
+    pub fn number(self) -> u16
         ensures { λ r. ⌜ r ≡ factorNumber self ⌝ }
     {
         match self {
@@ -126,11 +155,18 @@ impl FactorFault {
             FactorFault::Large(step, coordinate) => Place::Step(step, coordinate),
         }
     }
+
+    /// The layer that refused.
+    pub fn layer(self) -> Layer
+        ensures { λ r. ⌜ r ≡ factorLayer self ⌝ }
+    {
+        Layer::Factoring
+    }
 }
 
 impl ProposalFault {
     /// The refusal's number.
-    pub fn number(self) -> u8
+    pub fn number(self) -> u16
         ensures { λ r. ⌜ r ≡ proposalNumber self ⌝ }
     {
         match self {
@@ -161,15 +197,16 @@ impl ProposalFault {
             ProposalFault::Weights(_) => Layer::Proposal,
             ProposalFault::AbsentEnd(_) => Layer::Proposal,
             ProposalFault::Order(_) => Layer::Proposal,
-            ProposalFault::Factor(_) => Layer::Factoring,
+            ProposalFault::Factor(e) => e.layer(),
         }
     }
 }
 
 impl PlacementFault {
     /// The refusal's number.
-    pub fn number(self) -> u8
-        ensures { λ r. ⌜ r ≡ placementNumber self ⌝ }
+    pub fn number(self) -> u16
+        ensures value { λ r. ⌜ r ≡ placementNumber self ⌝ }
+        ensures law { λ _. ⌜ Refusals-pass-up-whole ⌝ }
     {
         match self {
             PlacementFault::Size => 11,
