@@ -34,6 +34,21 @@ impl Case {
     }
 }
 
+/// One case more.
+pub fn note(
+    cases: &mut Vec<Case>,
+    call: &'static str,
+    expected: &'static str,
+    got: String,
+) -> Result<(), AllocError> {
+    cases.push(Case {
+        call,
+        expected,
+        got,
+    })?;
+    Ok(())
+}
+
 /// The outcome of making a placement.
 pub fn made(
     heap: Global,
@@ -77,35 +92,41 @@ pub fn of_one_row(heap: Global, cases: &mut Vec<Case>) -> Result<(), AllocError>
     let two = [Span::new(-2, 2), Span::new(-2, 2)];
     let positive = [Span::new(1, 10), Span::new(2, 3)];
     let with_zero = [Span::new(1, 10), Span::new(0, 3)];
-    cases.push(Case {
-        call: "x1^2 <= 9 on [-10,10], row 1",
-        expected: "stood [-10,10]",
-        got: narrowed(heap, &ten, square_at_most_nine(), 1)?,
-    })?;
-    cases.push(Case {
-        call: "x1^2 + x2^2 <= 2 on [-2,2] [-2,2], row 1",
-        expected: "stood [-2,2] [-2,2]",
-        got: narrowed(heap, &two, circle(), 1)?,
-    })?;
-    cases.push(Case {
-        call: "x1 x2 <= -2 on [-2,2] [-2,2], row 1",
-        expected: "stood [-2,2] [-2,2]",
-        got: narrowed(heap, &two, product_at_most(), 1)?,
-    })?;
-    cases.push(Case {
-        call: "x1 x2 = 6 on [1,10] [2,3], row 1",
-        expected: "narrowed [2,3] [2,3]",
-        got: narrowed(heap, &positive, product_is_six(), 1)?,
-    })?;
-    cases.push(Case {
-        call: "x1 x2 = 6 on [1,10] [0,3], row 1",
-        expected: "stood [1,10] [0,3]",
-        got: narrowed(heap, &with_zero, product_is_six(), 1)?,
-    })?;
-    cases.push(Case {
-        call: "x1^2 >= 101 on [-10,10], row 1",
-        expected: "none [-10,10]",
-        got: narrowed(heap, &ten, square_at_least_101(), 1)?,
-    })?;
+    note(
+        cases,
+        "x1^2 <= 9 on [-10,10], row 1",
+        "stood [-10,10]",
+        narrowed(heap, &ten, square_at_most_nine(), 1)?,
+    )?;
+    note(
+        cases,
+        "x1^2 + x2^2 <= 2 on [-2,2] [-2,2], row 1",
+        "stood [-2,2] [-2,2]",
+        narrowed(heap, &two, circle(), 1)?,
+    )?;
+    note(
+        cases,
+        "x1 x2 <= -2 on [-2,2] [-2,2], row 1",
+        "stood [-2,2] [-2,2]",
+        narrowed(heap, &two, product_at_most(), 1)?,
+    )?;
+    note(
+        cases,
+        "x1 x2 = 6 on [1,10] [2,3], row 1",
+        "narrowed [2,3] [2,3]",
+        narrowed(heap, &positive, product_is_six(), 1)?,
+    )?;
+    note(
+        cases,
+        "x1 x2 = 6 on [1,10] [0,3], row 1",
+        "stood [1,10] [0,3]",
+        narrowed(heap, &with_zero, product_is_six(), 1)?,
+    )?;
+    note(
+        cases,
+        "x1^2 >= 101 on [-10,10], row 1",
+        "none [-10,10]",
+        narrowed(heap, &ten, square_at_least_101(), 1)?,
+    )?;
     Ok(())
 }

@@ -2,6 +2,7 @@
 use crate::cases::Case;
 use crate::cases::made;
 use crate::cases::narrowed;
+use crate::cases::note;
 use crate::outcome::answered;
 use crate::outcome::refused;
 use crate::outcome::told;
@@ -24,36 +25,42 @@ pub fn of_boxes(heap: Global, cases: &mut Vec<Case>) -> Result<(), AllocError> {
     let wide = [Span::new(-4096, 4096); 10];
     let beyond = [Span::new(-4096, 4096), Span::new(-4096, 4097)];
     let crossed = [Span::new(3, 3), Span::new(5, 4), Span::new(9, 1)];
-    cases.push(Case {
-        call: "size 9 with ends 4096, make",
-        expected: "made",
-        got: made(heap, 9, &wide[0..9], Vec::new(heap))?,
-    })?;
-    cases.push(Case {
-        call: "size 10, make",
-        expected: "refused 11 at 0",
-        got: made(heap, 10, &wide, Vec::new(heap))?,
-    })?;
-    cases.push(Case {
-        call: "size 0, make",
-        expected: "refused 11 at 0",
-        got: made(heap, 0, &wide[0..0], Vec::new(heap))?,
-    })?;
-    cases.push(Case {
-        call: "size 2 with three spans, make",
-        expected: "refused 11 at 0",
-        got: made(heap, 2, &crossed, Vec::new(heap))?,
-    })?;
-    cases.push(Case {
-        call: "end 4097 in span 2, make",
-        expected: "refused 12 at 2",
-        got: made(heap, 2, &beyond, Vec::new(heap))?,
-    })?;
-    cases.push(Case {
-        call: "spans 2 and 3 crossed, make",
-        expected: "refused 12 at 2",
-        got: made(heap, 3, &crossed, Vec::new(heap))?,
-    })?;
+    note(
+        cases,
+        "size 9 with ends 4096, make",
+        "made",
+        made(heap, 9, &wide[0..9], Vec::new(heap))?,
+    )?;
+    note(
+        cases,
+        "size 10, make",
+        "refused 11 at 0",
+        made(heap, 10, &wide, Vec::new(heap))?,
+    )?;
+    note(
+        cases,
+        "size 0, make",
+        "refused 11 at 0",
+        made(heap, 0, &wide[0..0], Vec::new(heap))?,
+    )?;
+    note(
+        cases,
+        "size 2 with three spans, make",
+        "refused 11 at 0",
+        made(heap, 2, &crossed, Vec::new(heap))?,
+    )?;
+    note(
+        cases,
+        "end 4097 in span 2, make",
+        "refused 12 at 2",
+        made(heap, 2, &beyond, Vec::new(heap))?,
+    )?;
+    note(
+        cases,
+        "spans 2 and 3 crossed, make",
+        "refused 12 at 2",
+        made(heap, 3, &crossed, Vec::new(heap))?,
+    )?;
     Ok(())
 }
 
@@ -66,26 +73,30 @@ fn rows(heap: Global, count: usize, row: RowDraft) -> Result<Vec<RowDraft>, Allo
 pub fn of_rows(heap: Global, cases: &mut Vec<Case>) -> Result<(), AllocError> {
     let ten = [Span::new(-10, 10)];
     let nine = square_at_most_nine();
-    cases.push(Case {
-        call: "sixteen rows, make",
-        expected: "made",
-        got: made(heap, 1, &ten, rows(heap, 16, nine)?)?,
-    })?;
-    cases.push(Case {
-        call: "seventeen rows, make",
-        expected: "refused 13 at 0",
-        got: made(heap, 1, &ten, rows(heap, 17, nine)?)?,
-    })?;
-    cases.push(Case {
-        call: "row 2 of another size, make",
-        expected: "refused 13 at 2",
-        got: made(heap, 1, &ten, vec![in heap; nine, circle()]?)?,
-    })?;
-    cases.push(Case {
-        call: "a bad span before a bad row, make",
-        expected: "refused 12 at 1",
-        got: made(heap, 1, &[Span::new(1, 0)], vec![in heap; circle()]?)?,
-    })?;
+    note(
+        cases,
+        "sixteen rows, make",
+        "made",
+        made(heap, 1, &ten, rows(heap, 16, nine)?)?,
+    )?;
+    note(
+        cases,
+        "seventeen rows, make",
+        "refused 13 at 0",
+        made(heap, 1, &ten, rows(heap, 17, nine)?)?,
+    )?;
+    note(
+        cases,
+        "row 2 of another size, make",
+        "refused 13 at 2",
+        made(heap, 1, &ten, vec![in heap; nine, circle()]?)?,
+    )?;
+    note(
+        cases,
+        "a bad span before a bad row, make",
+        "refused 12 at 1",
+        made(heap, 1, &[Span::new(1, 0)], vec![in heap; circle()]?)?,
+    )?;
     Ok(())
 }
 
@@ -110,31 +121,36 @@ pub fn of_limits(heap: Global, cases: &mut Vec<Case>) -> Result<(), AllocError> 
     let mut crossed = most;
     crossed.low = Some(1);
     crossed.high = Some(0);
-    cases.push(Case {
-        call: "a row with every end at its limit, make",
-        expected: "made",
-        got: with_row(heap, most)?,
-    })?;
-    cases.push(Case {
-        call: "a square's coefficient of -1025, make",
-        expected: "refused 13 at 1",
-        got: with_row(heap, square)?,
-    })?;
-    cases.push(Case {
-        call: "a single's coefficient of 65537, make",
-        expected: "refused 13 at 1",
-        got: with_row(heap, single)?,
-    })?;
-    cases.push(Case {
-        call: "a right side of 2^36 + 1, make",
-        expected: "refused 13 at 1",
-        got: with_row(heap, side)?,
-    })?;
-    cases.push(Case {
-        call: "a crossed right side, make",
-        expected: "refused 13 at 1",
-        got: with_row(heap, crossed)?,
-    })?;
+    note(
+        cases,
+        "a row with every end at its limit, make",
+        "made",
+        with_row(heap, most)?,
+    )?;
+    note(
+        cases,
+        "a square's coefficient of -1025, make",
+        "refused 13 at 1",
+        with_row(heap, square)?,
+    )?;
+    note(
+        cases,
+        "a single's coefficient of 65537, make",
+        "refused 13 at 1",
+        with_row(heap, single)?,
+    )?;
+    note(
+        cases,
+        "a right side of 2^36 + 1, make",
+        "refused 13 at 1",
+        with_row(heap, side)?,
+    )?;
+    note(
+        cases,
+        "a crossed right side, make",
+        "refused 13 at 1",
+        with_row(heap, crossed)?,
+    )?;
     Ok(())
 }
 
@@ -182,26 +198,25 @@ fn narrowed_by(
 pub fn of_states(heap: Global, cases: &mut Vec<Case>) -> Result<(), AllocError> {
     let mut unmade = Placement::new(heap);
     let one = placed(heap, square_at_most_nine())?;
-    cases.push(Case {
-        call: "read row 1 before make",
-        expected: "refused 31 at 0",
-        got: row_read(heap, &unmade, 1)?,
-    })?;
-    cases.push(Case {
-        call: "narrow before make",
-        expected: "refused 31 at 0",
-        got: narrowed_by(heap, &mut unmade, &one)?,
-    })?;
-    cases.push(Case {
-        call: "make twice",
-        expected: "refused 32 at 0",
-        got: made_twice(heap)?,
-    })?;
-    cases.push(Case {
-        call: "narrow again after none",
-        expected: "refused 33 at 0",
-        got: narrowed(heap, &[Span::new(-10, 10)], square_at_least_101(), 2)?,
-    })?;
+    note(
+        cases,
+        "read row 1 before make",
+        "refused 31 at 0",
+        row_read(heap, &unmade, 1)?,
+    )?;
+    note(
+        cases,
+        "narrow before make",
+        "refused 31 at 0",
+        narrowed_by(heap, &mut unmade, &one)?,
+    )?;
+    note(cases, "make twice", "refused 32 at 0", made_twice(heap)?)?;
+    note(
+        cases,
+        "narrow again after none",
+        "refused 33 at 0",
+        narrowed(heap, &[Span::new(-10, 10)], square_at_least_101(), 2)?,
+    )?;
     Ok(())
 }
 
@@ -209,29 +224,40 @@ pub fn of_states(heap: Global, cases: &mut Vec<Case>) -> Result<(), AllocError> 
 pub fn of_narrowers(heap: Global, cases: &mut Vec<Case>) -> Result<(), AllocError> {
     let mut one = placed(heap, square_at_most_nine())?;
     let mut two = Placement::new(heap);
-    let _ = two.make(2, &[Span::new(1, 10), Span::new(2, 3)], vec![in heap; product_is_six()]?);
-    cases.push(Case {
-        call: "read row 0",
-        expected: "refused 13 at 0",
-        got: row_read(heap, &one, 0)?,
-    })?;
-    cases.push(Case {
-        call: "read row 2 of one",
-        expected: "refused 13 at 0",
-        got: row_read(heap, &one, 2)?,
-    })?;
-    cases.push(Case {
-        call: "narrow by a row of another size",
-        expected: "refused 14 at 0",
-        got: narrowed_by(heap, &mut one, &two)?,
-    })?;
+    let _ = two.make(
+        2,
+        &[Span::new(1, 10), Span::new(2, 3)],
+        vec![in heap; product_is_six()]?,
+    );
+    note(
+        cases,
+        "read row 0",
+        "refused 13 at 0",
+        row_read(heap, &one, 0)?,
+    )?;
+    note(
+        cases,
+        "read row 2 of one",
+        "refused 13 at 0",
+        row_read(heap, &one, 2)?,
+    )?;
+    note(
+        cases,
+        "narrow by a row of another size",
+        "refused 14 at 0",
+        narrowed_by(heap, &mut one, &two)?,
+    )?;
     Ok(())
 }
 
 /// The outcome of handing a run of spans to the narrower of x1 x2 = 6.
 fn run_narrowed(heap: Global, spans: &mut [Span]) -> Result<String, AllocError> {
     let mut two = Placement::new(heap);
-    let _ = two.make(2, &[Span::new(1, 10), Span::new(2, 3)], vec![in heap; product_is_six()]?);
+    let _ = two.make(
+        2,
+        &[Span::new(1, 10), Span::new(2, 3)],
+        vec![in heap; product_is_six()]?,
+    );
     match two.row(1) {
         Ok(held) => {
             let mut by = OneRow::new(held);
@@ -247,25 +273,29 @@ pub fn of_runs(heap: Global, cases: &mut Vec<Case>) -> Result<(), AllocError> {
     let mut three = [Span::new(2, 1); 3];
     let mut crossed = [Span::new(1, 10), Span::new(3, 2)];
     let mut good = [Span::new(1, 10), Span::new(2, 3)];
-    cases.push(Case {
-        call: "an empty run, narrower of size 2",
-        expected: "refused 14 at 0, leaving",
-        got: run_narrowed(heap, &mut none)?,
-    })?;
-    cases.push(Case {
-        call: "three crossed spans, narrower of size 2",
-        expected: "refused 14 at 0, leaving [2,1] [2,1] [2,1]",
-        got: run_narrowed(heap, &mut three)?,
-    })?;
-    cases.push(Case {
-        call: "span 2 crossed, narrower of size 2",
-        expected: "refused 12 at 2, leaving [1,10] [3,2]",
-        got: run_narrowed(heap, &mut crossed)?,
-    })?;
-    cases.push(Case {
-        call: "x1 x2 = 6 on the run [1,10] [2,3]",
-        expected: "narrowed, leaving [2,3] [2,3]",
-        got: run_narrowed(heap, &mut good)?,
-    })?;
+    note(
+        cases,
+        "an empty run, narrower of size 2",
+        "refused 14 at 0, leaving",
+        run_narrowed(heap, &mut none)?,
+    )?;
+    note(
+        cases,
+        "three crossed spans, narrower of size 2",
+        "refused 14 at 0, leaving [2,1] [2,1] [2,1]",
+        run_narrowed(heap, &mut three)?,
+    )?;
+    note(
+        cases,
+        "span 2 crossed, narrower of size 2",
+        "refused 12 at 2, leaving [1,10] [3,2]",
+        run_narrowed(heap, &mut crossed)?,
+    )?;
+    note(
+        cases,
+        "x1 x2 = 6 on the run [1,10] [2,3]",
+        "narrowed, leaving [2,3] [2,3]",
+        run_narrowed(heap, &mut good)?,
+    )?;
     Ok(())
 }

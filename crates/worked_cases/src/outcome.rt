@@ -32,7 +32,10 @@ fn word(answer: Answer) -> &'static str {
 fn numbered(heap: Global, number: u16, place: Place) -> Result<String, AllocError> {
     match place {
         Place::Entry(at) => format!(heap, "refused {number} at {at}"),
-        Place::Step(step, coordinate) => format!(heap, "refused {number} at step {step} coordinate {coordinate}"),
+        Place::Step(step, coordinate) => format!(
+            heap,
+            "refused {number} at step {step} coordinate {coordinate}"
+        ),
     }
 }
 
@@ -42,7 +45,11 @@ pub fn refused(heap: Global, fault: PlacementFault) -> Result<String, AllocError
 }
 
 /// A placement's answer with the box that is left, as `narrowed [2,3] [2,3]`, or its refusal.
-pub fn answered(heap: Global, placement: &Placement, result: Result<Answer, PlacementFault>) -> Result<String, AllocError> {
+pub fn answered(
+    heap: Global,
+    placement: &Placement,
+    result: Result<Answer, PlacementFault>,
+) -> Result<String, AllocError> {
     let answer = match result {
         Ok(answer) => answer,
         Err(fault) => return refused(heap, fault),
@@ -58,7 +65,11 @@ pub fn answered(heap: Global, placement: &Placement, result: Result<Answer, Plac
 }
 
 /// A narrower's answer or refusal with the run that is left, as `narrowed, leaving [2,3] [2,3]`.
-pub fn told(heap: Global, result: Result<Answer, NarrowFault>, spans: &[Span]) -> Result<String, AllocError> {
+pub fn told(
+    heap: Global,
+    result: Result<Answer, NarrowFault>,
+    spans: &[Span],
+) -> Result<String, AllocError> {
     let spans = written(heap, spans)?;
     match result {
         Ok(answer) => {

@@ -1,0 +1,120 @@
+//! What a line of input asks for.
+use crate::words::Words;
+use crate::wrong::Wrong;
+use model::span::Span;
+
+/// A line that describes the problem, with coordinates that count from 1 and that nobody has looked at yet.
+#[derive(Clone, Copy)]
+pub enum Description {
+    Size(i64),
+    Span(i64, Span),
+    Row,
+    Square(i64, Span),
+    Pair(i64, i64, Span),
+    Single(i64, Span),
+    AtLeast(i64),
+    AtMost(i64),
+}
+
+/// What can be read of a placement. Rows count from 1.
+#[derive(Clone, Copy)]
+pub enum Reading {
+    Size,
+    Box,
+    Standing,
+    Row(i64),
+}
+
+/// A line that calls the placement. Rows count from 1.
+#[derive(Clone, Copy)]
+pub enum Call {
+    Make,
+    NarrowRow(i64),
+    Read(Reading),
+}
+
+/// A line that says something.
+#[derive(Clone, Copy)]
+pub enum Command {
+    Describe(Description),
+    Call(Call),
+}
+
+/// The command of a line; none where the line is empty or a comment.
+pub fn parse<'a>(line: &'a str) -> Result<Option<Command>, Wrong<'a>> {
+    let mut words = Words::new(line);
+    let Some(first) = words.next() else {
+        return Ok(None);
+    };
+    let command = match parse_call(first, &mut words)? {
+        Some(call) => Command::Call(call),
+        None => Command::Describe(parse_description(first, &mut words)?),
+    };
+    words.end()?;
+    Ok(Some(command))
+}
+
+/// The call that starts with a word; none where no call does.
+fn parse_call<'a>(first: &'a str, words: &mut Words<'a>) -> Result<Option<Call>, Wrong<'a>> {
+    match first {
+        "make" => Ok(Some(Call::Make)),
+        "narrow" => Ok(Some(parse_narrowing(words)?)),
+        "read" => Ok(Some(Call::Read(parse_reading(words)?))),
+        _ => Ok(None),
+    }
+}
+
+/// What stands after `narrow`.
+fn parse_narrowing<'a>(words: &mut Words<'a>) -> Result<Call, Wrong<'a>> {
+    match words.expect("what to narrow by")? {
+        "row" => Ok(Call::NarrowRow(words.number("the row's number")?)),
+        word => Err(Wrong::UnknownNarrower(word)),
+    }
+}
+
+/// What stands after `read`.
+fn parse_reading<'a>(words: &mut Words<'a>) -> Result<Reading, Wrong<'a>> {
+    match words.expect("what to read")? {
+        "size" => Ok(Reading::Size),
+        "box" => Ok(Reading::Box),
+        "standing" => Ok(Reading::Standing),
+        "row" => Ok(Reading::Row(words.number("the row's number")?)),
+        word => Err(Wrong::UnknownReading(word)),
+    }
+}
+
+/// The description that starts with a word.
+fn parse_description<'a>(first: &'a str, words: &mut Words<'a>) -> Result<Description, Wrong<'a>> {
+    match first {
+        "size" => Ok(Description::Size(words.number("the size")?)),
+        "span" => parse_span(words),
+        "row" => Ok(Description::Row),
+        "square" => {
+            let i = words.number("the coordinate")?;
+            Ok(Description::Square(i, words.coefficient()?))
+        }
+        "pair" => parse_pair(words),
+        "single" => {
+            let i = words.number("the coordinate")?;
+            Ok(Description::Single(i, words.coefficient()?))
+        }
+        "at-least" => Ok(Description::AtLeast(words.number("the low end")?)),
+        "at-most" => Ok(Description::AtMost(words.number("the high end")?)),
+        word => Err(Wrong::UnknownLine(word)),
+    }
+}
+
+/// What stands after `span`.
+fn parse_span<'a>(words: &mut Words<'a>) -> Result<Description, Wrong<'a>> {
+    let i = words.number("the coordinate")?;
+    let low = words.number("the low end")?;
+    let high = words.number("the high end")?;
+    Ok(Description::Span(i, Span::new(low, high)))
+}
+
+/// What stands after `pair`.
+fn parse_pair<'a>(words: &mut Words<'a>) -> Result<Description, Wrong<'a>> {
+    let i = words.number("the first coordinate")?;
+    let j = words.number("the second coordinate")?;
+    Ok(Description::Pair(i, j, words.coefficient()?))
+}
