@@ -1,4 +1,7 @@
 //! What a line of input asks for.
+
+ghost use mathlib.Core.Path.{_≡_};
+ghost use Rattle.tighten.specs.Contents.{ordinalOf};
 use crate::words::Words;
 use crate::wrong::Wrong;
 use model::span::Span;
@@ -117,4 +120,11 @@ fn parse_pair<'a>(words: &mut Words<'a>) -> Result<Description, Wrong<'a>> {
     let i = words.number("the first coordinate")?;
     let j = words.number("the second coordinate")?;
     Ok(Description::Pair(i, j, words.coefficient()?))
+}
+
+/// A number that counts from 1, as those of coordinates and rows do. None is below 1, so 0 stands for all of those.
+pub fn ordinal(given: i64) -> usize
+    ensures { λ r. ⌜ r ≡ ordinalOf given ⌝ }
+{
+    usize::try_from(given).unwrap_or(0)
 }

@@ -1,8 +1,13 @@
 //! The problem as it is described so far.
 
 ghost use Prim.Native.Nat.{_<_};
+ghost use mathlib.Core.Path.{_≡_};
+ghost use Rattle.std.specs.Of.Vec.{vec-items};
 ghost use Rattle.std.specs.Vec.{made};
+ghost use Rattle.tighten.specs.Contents.{contentsOf, unknown, sizeOf, boxOf};
+ghost use Rattle.tighten.specs.Descriptions.{indexIn, taken, lineAnswer, lineLeft, TakenIn};
 use crate::command::Description;
+use crate::command::ordinal;
 use crate::wrong::Wrong;
 use crate::wrong::WrongFromRefused;
 use model::draft::RowDraft;
@@ -28,7 +33,9 @@ pub struct Problem {
 
 impl Problem {
     /// A problem of which nothing is known.
-    pub fn new(heap: Global) -> Problem {
+    pub fn new(heap: Global) -> Problem
+        ensures { λ r. ⌜ contentsOf r ≡ unknown ⌝ }
+    {
         Problem {
             size: None,
             spans: [WIDEST; 9],
@@ -37,23 +44,31 @@ impl Problem {
     }
 
     /// The size, or 0 where none is given.
-    pub fn size(&self) -> usize {
+    pub fn size(&self) -> usize
+        ensures { λ r. ⌜ r ≡ sizeOf (contentsOf (now (self .entry))) ⌝ }
+    {
         self.size.unwrap_or(0)
     }
 
     /// The spans of the coordinates, of which there are never more than nine.
-    pub fn spans(&self) -> &[Span] {
+    pub fn spans(&self) -> &[Span]
+        ensures { λ r. ⌜ now r ≡ boxOf (contentsOf (now (self .entry))) ⌝ }
+    {
         let n = self.size().min(MOST_COORDINATES);
         &self.spans[0..n]
     }
 
     /// A copy of the rows.
-    pub fn rows(&self, heap: Global) -> Result<Vec<RowDraft>, AllocError> {
+    pub fn rows(&self, heap: Global) -> Result<Vec<RowDraft>, AllocError>
+        ensures { λ r. ⌜ made r (λ v. vec-items v ≡ contentsOf (now (self .entry)) .rows) ⌝ }
+    {
         Vec::from_slice(heap, &self.rows)
     }
 
     /// Takes in a line. A span, a term or an end that is given again replaces the earlier one, so that what is refused can be put right.
-    pub fn describe<'a>(&mut self, line: Description) -> Result<(), Wrong<'a>> {
+    pub fn describe<'a>(&mut self, line: Description) -> Result<(), Wrong<'a>>
+        ensures { λ r. ⌜ TakenIn r (taken line (contentsOf (now (self .entry)))) (contentsOf (now (self .entry))) (contentsOf (now (self .exit))) ⌝ }
+    {
         match line {
             Description::Size(size) => self.set_size(size),
             Description::Span(i, span) => self.set_span(i, span),
@@ -66,7 +81,10 @@ impl Problem {
         }
     }
 
-    fn set_size<'a>(&mut self, given: i64) -> Result<(), Wrong<'a>> {
+    fn set_size<'a>(&mut self, given: i64) -> Result<(), Wrong<'a>>
+        ensures answer { λ r. ⌜ r ≡ lineAnswer (taken (Description.Size given) (contentsOf (now (self .entry)))) ⌝ }
+        ensures after { λ _. ⌜ contentsOf (now (self .exit)) ≡ lineLeft (taken (Description.Size given) (contentsOf (now (self .entry)))) (contentsOf (now (self .entry))) ⌝ }
+    {
         if self.size.is_some() {
             return Err(Wrong::SizeAgain);
         }
@@ -81,25 +99,33 @@ impl Problem {
 
     /// The place of a coordinate that is counted from 1.
     fn index<'a>(&self, given: i64) -> Result<usize, Wrong<'a>>
-        ensures { λ r. ⌜ made r (λ i. i < 9) ⌝ }
+        ensures value { λ r. ⌜ r ≡ indexIn (now (self .entry) .size) given ⌝ }
+        ensures bound { λ r. ⌜ made r (λ i. i < 9) ⌝ }
     {
         let Some(size) = self.size else {
             return Err(Wrong::NoSize);
         };
         let most = size.min(MOST_COORDINATES);
-        match usize::try_from(given) {
-            Ok(i) if i > 0 && i <= most => Ok(i - 1),
-            _ => Err(Wrong::NoCoordinate(given, most)),
+        let i = ordinal(given);
+        if i > 0 && i <= most {
+            Ok(i - 1)
+        } else {
+            Err(Wrong::NoCoordinate(given, most))
         }
     }
 
-    fn set_span<'a>(&mut self, i: i64, span: Span) -> Result<(), Wrong<'a>> {
+    fn set_span<'a>(&mut self, i: i64, span: Span) -> Result<(), Wrong<'a>>
+        ensures answer { λ r. ⌜ r ≡ lineAnswer (taken (Description.Span i span) (contentsOf (now (self .entry)))) ⌝ }
+        ensures after { λ _. ⌜ contentsOf (now (self .exit)) ≡ lineLeft (taken (Description.Span i span) (contentsOf (now (self .entry)))) (contentsOf (now (self .entry))) ⌝ }
+    {
         let i = self.index(i)?;
         self.spans[i] = span;
         Ok(())
     }
 
-    fn start_row<'a>(&mut self) -> Result<(), Wrong<'a>> {
+    fn start_row<'a>(&mut self) -> Result<(), Wrong<'a>>
+        ensures { λ r. ⌜ TakenIn r (taken Description.Row (contentsOf (now (self .entry)))) (contentsOf (now (self .entry))) (contentsOf (now (self .exit))) ⌝ }
+    {
         let Some(size) = self.size else {
             return Err(Wrong::NoSize);
         };
@@ -107,7 +133,10 @@ impl Problem {
         Ok(())
     }
 
-    fn set_square<'a>(&mut self, i: i64, coefficient: Span) -> Result<(), Wrong<'a>> {
+    fn set_square<'a>(&mut self, i: i64, coefficient: Span) -> Result<(), Wrong<'a>>
+        ensures answer { λ r. ⌜ r ≡ lineAnswer (taken (Description.Square i coefficient) (contentsOf (now (self .entry)))) ⌝ }
+        ensures after { λ _. ⌜ contentsOf (now (self .exit)) ≡ lineLeft (taken (Description.Square i coefficient) (contentsOf (now (self .entry)))) (contentsOf (now (self .entry))) ⌝ }
+    {
         let i = self.index(i)?;
         let Some(row) = self.rows.last_mut() else {
             return Err(Wrong::NoRow);
@@ -116,7 +145,10 @@ impl Problem {
         Ok(())
     }
 
-    fn set_pair<'a>(&mut self, i: i64, j: i64, coefficient: Span) -> Result<(), Wrong<'a>> {
+    fn set_pair<'a>(&mut self, i: i64, j: i64, coefficient: Span) -> Result<(), Wrong<'a>>
+        ensures answer { λ r. ⌜ r ≡ lineAnswer (taken (Description.Pair i j coefficient) (contentsOf (now (self .entry)))) ⌝ }
+        ensures after { λ _. ⌜ contentsOf (now (self .exit)) ≡ lineLeft (taken (Description.Pair i j coefficient) (contentsOf (now (self .entry)))) (contentsOf (now (self .entry))) ⌝ }
+    {
         let first = self.index(i)?;
         let second = self.index(j)?;
         if first == second {
@@ -129,7 +161,10 @@ impl Problem {
         Ok(())
     }
 
-    fn set_single<'a>(&mut self, i: i64, coefficient: Span) -> Result<(), Wrong<'a>> {
+    fn set_single<'a>(&mut self, i: i64, coefficient: Span) -> Result<(), Wrong<'a>>
+        ensures answer { λ r. ⌜ r ≡ lineAnswer (taken (Description.Single i coefficient) (contentsOf (now (self .entry)))) ⌝ }
+        ensures after { λ _. ⌜ contentsOf (now (self .exit)) ≡ lineLeft (taken (Description.Single i coefficient) (contentsOf (now (self .entry)))) (contentsOf (now (self .entry))) ⌝ }
+    {
         let i = self.index(i)?;
         let Some(row) = self.rows.last_mut() else {
             return Err(Wrong::NoRow);
@@ -138,7 +173,10 @@ impl Problem {
         Ok(())
     }
 
-    fn set_low<'a>(&mut self, low: i64) -> Result<(), Wrong<'a>> {
+    fn set_low<'a>(&mut self, low: i64) -> Result<(), Wrong<'a>>
+        ensures answer { λ r. ⌜ r ≡ lineAnswer (taken (Description.AtLeast low) (contentsOf (now (self .entry)))) ⌝ }
+        ensures after { λ _. ⌜ contentsOf (now (self .exit)) ≡ lineLeft (taken (Description.AtLeast low) (contentsOf (now (self .entry)))) (contentsOf (now (self .entry))) ⌝ }
+    {
         let Some(row) = self.rows.last_mut() else {
             return Err(Wrong::NoRow);
         };
@@ -146,7 +184,10 @@ impl Problem {
         Ok(())
     }
 
-    fn set_high<'a>(&mut self, high: i64) -> Result<(), Wrong<'a>> {
+    fn set_high<'a>(&mut self, high: i64) -> Result<(), Wrong<'a>>
+        ensures answer { λ r. ⌜ r ≡ lineAnswer (taken (Description.AtMost high) (contentsOf (now (self .entry)))) ⌝ }
+        ensures after { λ _. ⌜ contentsOf (now (self .exit)) ≡ lineLeft (taken (Description.AtMost high) (contentsOf (now (self .entry)))) (contentsOf (now (self .entry))) ⌝ }
+    {
         let Some(row) = self.rows.last_mut() else {
             return Err(Wrong::NoRow);
         };

@@ -1,4 +1,7 @@
 //! Spans and boxes as a person reads them.
+
+ghost use mathlib.Core.Path.{_≡_};
+ghost use Rattle.tighten.specs.Calls.{boxText};
 use model::span::Span;
 use model::spans::copy_of;
 use std::fmt;
@@ -23,7 +26,9 @@ pub struct BoxText {
 
 impl BoxText {
     /// The text of a box.
-    pub fn new(spans: &[Span]) -> BoxText {
+    pub fn new(spans: &[Span]) -> BoxText
+        ensures { λ r. ⌜ r ≡ boxText (now (spans .entry)) ⌝ }
+    {
         BoxText {
             size: spans.len(),
             spans: copy_of(spans),

@@ -1,4 +1,7 @@
 //! What can be wrong with a line of input.
+
+ghost use mathlib.Core.Path.{_≡_};
+ghost use Rattle.tighten.specs.declared.wrong.Wrong.the-variants.{Memory};
 use std::alloc::AllocError;
 use std::alloc::Refused;
 use std::fmt;
@@ -37,12 +40,16 @@ pub enum Wrong<'a> {
 }
 
 pub impl<'a> From<AllocError> for Wrong<'a> as WrongFromAlloc {
+    ghost converts = { λ _ r. r ≡ Memory };
+
     fn from(_e: AllocError) -> Wrong<'a> {
         Wrong::Memory
     }
 }
 
 pub impl<'a, T: Drop> From<Refused<T>> for Wrong<'a> as WrongFromRefused {
+    ghost converts = { λ _ r. r ≡ Memory };
+
     fn from(_e: Refused<T>) -> Wrong<'a> {
         Wrong::Memory
     }

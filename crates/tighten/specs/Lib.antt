@@ -1,0 +1,4 @@
+pub mod Contents
+pub mod Descriptions
+pub mod Calls
+pub mod Obeying
