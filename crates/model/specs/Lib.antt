@@ -1,3 +1,4 @@
+-- Limits, boxes, rows and points, and what the tests of them say.
 pub mod Limits
 pub mod Firsts
 pub mod Boxes

@@ -1,8 +1,8 @@
 -- The ranges that the code computes, once it is known that 64 bits hold their ends.
 use Prim.Native.Nat.{ℕ, _+_, _*_, _≤_, _<_}
 use native.Mathlib.Omega.{arith}
-use mathlib.Core.Path.{_≡_, refl, sym, _∙_, ap, ap₂}
-use Rattle.numbers.specs.Ranges.{Range, Spans, heldRange, plus, minus, without, times, square, sumR}
+use mathlib.Core.Path.{_≡_, sym, _∙_, ap, ap₂}
+use Rattle.numbers.specs.Ranges.{Range, Spans, heldRange, plus, times, square, sumR}
 use Rattle.numbers.proofs.Held.{heldRange-small, plus-within, sumR-more}
 use Rattle.model.specs.Limits.{mostCoordinates}
 use Rattle.narrower.proofs.RowTerms.{few-size}
@@ -11,12 +11,15 @@ use Rattle.narrower.proofs.RowTerms.{few-size}
 pub unheld : (p x y : Range) (s : ℕ) → p ≡ heldRange x → x ≡ y → Spans y s → s ≤ 9223372036854775807 → p ≡ y
 unheld p x y s e f h k = e ∙ ap heldRange f ∙ heldRange-small y s k h
 
+-- the code's product of two ranges
 pub product-is : (p a b u v : Range) (s : ℕ) → p ≡ heldRange (times a b) → a ≡ u → b ≡ v → Spans (times u v) s → s ≤ 9223372036854775807 → p ≡ times u v
 product-is p a b u v s e f g h k = unheld p (times a b) (times u v) s e (ap₂ times f g) h k
 
+-- the code's square of a range
 pub square-is : (p a u : Range) (s : ℕ) → p ≡ heldRange (square a) → a ≡ u → Spans (square u) s → s ≤ 9223372036854775807 → p ≡ square u
 square-is p a u s e f h k = unheld p (square a) (square u) s e (ap square f) h k
 
+-- the code's sum of two ranges
 pub sum-is : (p a b u v : Range) (s : ℕ) → p ≡ heldRange (plus a b) → a ≡ u → b ≡ v → Spans (plus u v) s → s ≤ 9223372036854775807 → p ≡ plus u v
 sum-is p a b u v s e f g h k = unheld p (plus a b) (plus u v) s e (ap₂ plus f g) h k
 

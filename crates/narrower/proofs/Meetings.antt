@@ -42,15 +42,15 @@ one-at Q X i s p a j b = two-at (λ j r _. Q j r) X X i s s p p a j b
 -- ---- the meeting
 
 -- its low end
-abbrev lo : List Span → ℕ → Range → ℤ
+abbrev pub lo : List Span → ℕ → Range → ℤ
 lo X i r = maxZ (at X i .0) (r .0)
 
 -- its high end
-abbrev hi : List Span → ℕ → Range → ℤ
+abbrev pub hi : List Span → ℕ → Range → ℤ
 hi X i r = minZ (at X i .1) (r .1)
 
 -- the box with it, where its ends are in order
-abbrev met : Bool → List Span → ℕ → ℤ → ℤ → Option (List Span)
+abbrev pub met : Bool → List Span → ℕ → ℤ → ℤ → Option (List Span)
 met t X i l h = cond t (Some (set X i (span l h))) None
 
 -- it leaves a box, if anything

@@ -78,17 +78,23 @@ not-both s t p q = not-from-true (s && t) (and-from s t p q)
 both-not : (s t : Bool) → not (s && t) ≡ false → (s ≡ true) × (t ≡ true)
 both-not s t e = and-parts s t (not-false (s && t) e)
 
+-- ---- one coordinate cut
+
+-- the range of x_i times its factor: the right side less the terms without x_i
+abbrev pub left : Row → List Span → ℕ → Range
+left r X i = minus (sideOf r) (restOf r X i)
+
+-- the box with coordinate i cut, unless its factor holds 0
+abbrev pub narrowed : Row → Bool → ℕ → List Span → Option (List Span)
+narrowed r t i X = elim t [ true ↦ Some X | false ↦ meetAt X i (over (left r X i) (factorOf r X i)) ]
+
 module _ (r : Row) (w : RowWithin r) where
   -- the coordinates of a point of a box
   point-in : (x : Point) (X : List Span) → IsBox (r .size) X → InBox x X → (i : ℕ) → i < r .size → Between (at X i) (pos (x .over)) (x .place i)
   point-in x X b h i l = h i (omega (arith, b .long))
 
-  -- the range of x_i times its factor: the right side less the terms without x_i
-  abbrev left : List Span → ℕ → Range
-  left X i = minus (sideOf r) (restOf r X i)
-
-  -- it is monotone in the box
-  sub-left : (X Y : List Span) → ((i : ℕ) → i < r .size → Sub (at X i) (at Y i)) → (i : ℕ) → Sub (left X i) (left Y i)
+  -- the right side less the terms without x_i is monotone in the box
+  sub-left : (X Y : List Span) → ((i : ℕ) → i < r .size → Sub (at X i) (at Y i)) → (i : ℕ) → Sub (left r X i) (left r Y i)
   sub-left X Y s i = of (sideOf r) (restOf r X i) (restOf r Y i) (sub-rest r w X Y s i) (low-high (r .low) (r .high) (w .low-in) (w .high-in) (w .uncrossed))
     where
       of : (c a b : Range) → Sub a b → c .0 ≤ℤ c .1 → Sub (minus c a) (minus c b)
@@ -96,33 +102,29 @@ module _ (r : Row) (w : RowWithin r) where
 
   -- ---- one coordinate
 
-  -- the box with coordinate i cut, unless its factor holds 0
-  abbrev narrowed : Bool → ℕ → List Span → Option (List Span)
-  narrowed t i X = elim t [ true ↦ Some X | false ↦ meetAt X i (over (left X i) (factorOf r X i)) ]
-
   module _ (i : ℕ) (l : i < r .size) where
     -- it is a box, if anything
-    narrow-box : (X : List Span) (t : Bool) → IsBox (r .size) X → OrBox (r .size) (narrowed t i X)
+    narrow-box : (X : List Span) (t : Bool) → IsBox (r .size) X → OrBox (r .size) (narrowed r t i X)
     narrow-box X true b = b
-    narrow-box X false b = meet-box (r .size) X i (over (left X i) (factorOf r X i)) b l
+    narrow-box X false b = meet-box (r .size) X i (over (left r X i) (factorOf r X i)) b l
 
     -- it lies in the box
-    narrow-inside : (X : List Span) (t : Bool) → IsBox (r .size) X → Below (narrowed t i X) (Some X)
+    narrow-inside : (X : List Span) (t : Bool) → IsBox (r .size) X → Below (narrowed r t i X) (Some X)
     narrow-inside X true b = inside-refl X
-    narrow-inside X false b = meet-inside X i (over (left X i) (factorOf r X i)) (omega (arith, b .long))
+    narrow-inside X false b = meet-inside X i (over (left r X i) (factorOf r X i)) (omega (arith, b .long))
 
     -- it is monotone in the box
     narrow-order : (X Y : List Span) → IsBox (r .size) X → IsBox (r .size) Y → Inside X Y
-        → (s t : Bool) → holds-zero (factorOf r X i) ≡ s → holds-zero (factorOf r Y i) ≡ t → Below (narrowed s i X) (narrowed t i Y)
-    narrow-order X Y b c h s true e f = below-inside (narrowed s i X) X Y (narrow-inside X s b) h
+        → (s t : Bool) → holds-zero (factorOf r X i) ≡ s → holds-zero (factorOf r Y i) ≡ t → Below (narrowed r s i X) (narrowed r t i Y)
+    narrow-order X Y b c h s true e f = below-inside (narrowed r s i X) X Y (narrow-inside X s b) h
     narrow-order X Y b c h true false e f = absurd (both-ways (holds-zero (factorOf r X i)) (sub-side (sub-factor r w X Y (box-sub b c h) i l) f) e)
     narrow-order X Y b c h false false e f =
         let k = sub-over f (sub-left X Y (box-sub b c h) i) (sub-factor r w X Y (box-sub b c h) i l) in
-        meet-order X Y i (over (left X i) (factorOf r X i)) (over (left Y i) (factorOf r Y i)) (omega (arith, b .long)) h k
+        meet-order X Y i (over (left r X i) (factorOf r X i)) (over (left r Y i) (factorOf r Y i)) (omega (arith, b .long)) h k
 
     -- x_i of a point that meets the row lies in what is left, divided by the factor
     narrow-in : (X : List Span) (x : Point) → IsBox (r .size) X → InBox x X → (m : Meets x r) → holds-zero (factorOf r X i) ≡ false
-        → Between (over (left X i) (factorOf r X i)) (pos (x .over)) (x .place i)
+        → Between (over (left r X i) (factorOf r X i)) (pos (x .over)) (x .place i)
     narrow-in X x b h m e =
         in-over (pos (x .over)) (x .place i) positive (let p = x .positive in omega (arith, ints)) e (in-factor r X x c q i l)
         (in-same (ring 2 (λ e d. e ⊗ (d ⊗ d) ≐ e ⊗ d ⊗ d) refl (pos (c .over)) (pos (x .over))) refl
@@ -149,10 +151,10 @@ module _ (r : Row) (w : RowWithin r) where
             omega (arith, lin)
 
     -- a point of the box that meets the row is kept
-    narrow-holds : (X : List Span) (x : Point) → IsBox (r .size) X → InBox x X → Meets x r → (t : Bool) → holds-zero (factorOf r X i) ≡ t → Holds (narrowed t i X) x
+    narrow-holds : (X : List Span) (x : Point) → IsBox (r .size) X → InBox x X → Meets x r → (t : Bool) → holds-zero (factorOf r X i) ≡ t → Holds (narrowed r t i X) x
     narrow-holds X x b h m true e = h
     narrow-holds X x b h m false e =
-        meet-holds x X i (over (left X i) (factorOf r X i)) (omega (arith, b .long)) h (narrow-in X x b h m e)
+        meet-holds x X i (over (left r X i) (factorOf r X i)) (omega (arith, b .long)) h (narrow-in X x b h m e)
 
     -- so cutting one coordinate keeps the laws
     pub narrow-good : Good (r .size) (Met (r ∷ [])) (narrowAt r i)

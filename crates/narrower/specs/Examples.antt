@@ -3,11 +3,11 @@ use mathlib.Core.Path.{_≡_}
 use mathlib.Core.List.{List, [], _∷_}
 use Prim.Native.Nat.{ℕ}
 use lib.ListN.{getD}
-use lib.IntN.{ℤ, pos, negsuc, negℤ}
+use lib.IntN.{ℤ, pos, negℤ}
 use Rattle.std.specs.declared.option.Option.{Option}
 use Rattle.std.specs.declared.option.Option.the-variants.{Some, None}
 use Rattle.std.specs.shelf.Lists.{All}
-use Rattle.numbers.specs.Ranges.{Range, just}
+use Rattle.numbers.specs.Ranges.{just}
 use Rattle.model.specs.declared.span.Span.{Span}
 use Rattle.model.specs.Boxes.{span}
 use Rattle.model.specs.Rows.{Row}

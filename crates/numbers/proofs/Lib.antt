@@ -1,3 +1,4 @@
+-- The ring solver, the laws of ℤ, and the lemmas on rounding, sums and ranges, for this crate and those above it.
 pub mod Laws
 pub mod Ring
 pub mod Order

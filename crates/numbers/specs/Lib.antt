@@ -1,3 +1,4 @@
+-- Rounding, sums and ranges, and what characterises them.
 pub mod Division
 pub mod Magnitudes
 pub mod Sums

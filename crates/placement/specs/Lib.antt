@@ -1,3 +1,4 @@
+-- What a placement holds, and what making, narrowing and reading it answer and leave.
 pub mod Held
 pub mod States
 pub mod Makes

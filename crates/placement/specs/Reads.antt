@@ -1,8 +1,7 @@
 -- Reading a placement.
-use mathlib.Core.Bool.{Bool, cond, _&&_}
+use mathlib.Core.Bool.{cond, _&&_}
 use mathlib.Core.List.{List}
 use Prim.Native.Nat.{ℕ, _-_}
-use denote.Ref.{RefT}
 use lib.Dec.{leb, ltb}
 use lib.ListN.{length, getD}
 use Rattle.std.specs.declared.result.Result.{Result}

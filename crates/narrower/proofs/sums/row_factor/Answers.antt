@@ -2,7 +2,7 @@
 use native.Mathlib.Omega.{arith}
 use Prim.Native.Nat.{ℕ, _*_}
 use lib.IntN.{pos}
-use Rattle.numbers.specs.Ranges.{Range, just, times}
+use Rattle.numbers.specs.Ranges.{Range, just, times, sumR}
 use Rattle.numbers.specs.Sums.{but}
 use Rattle.numbers.proofs.Magnitudes.{times-within}
 use Rattle.model.specs.Limits.{mostCoordinates, boxLimit, squareLimit, singleLimit}
@@ -21,7 +21,7 @@ returns c =
     let l = c .pre .i-within in
     let q = c .pre .ready in
     let square = product-is _ _ _ _ _ slopeSize (c .product-range-square .ensures .value) (c .ends .ensures) (c .ends-2 .ensures) (times-within _ _ squareLimit boxLimit (within-size (q .limits .squares-in i l)) (box-size q i l)) (omega arith) in
-    three-is _ _ _ _ _ _ _ _ (mostCoordinates * slopeSize) singleLimit factorSize
+    three-is _ _ _ _ _ _ (sumR (c .args .row .now .size) (but (just (pos 0)) i f)) _ (mostCoordinates * slopeSize) singleLimit factorSize
     (c .sum-range-2 .ensures .value) (c .sum-range .ensures .value) square (c .pair-factors-pairs .ensures) (c .ends-3 .ensures)
     (few-size _ slopeSize (but (just (pos 0)) i f) (q .limits .few) (λ j k. but-size slopeSize i j f (λ n. factorTwo-size q i j n l k))) (within-size (q .limits .singles-in i l)) (omega arith)
     (factor-size q i l) (omega arith)

@@ -2,7 +2,7 @@
 use native.Mathlib.Omega.{arith}
 use Prim.Native.Nat.{_*_}
 use lib.IntN.{pos}
-use Rattle.numbers.specs.Ranges.{just}
+use Rattle.numbers.specs.Ranges.{just, sumR}
 use Rattle.numbers.specs.Sums.{but, ordered}
 use Rattle.model.specs.Limits.{mostCoordinates}
 use Rattle.model.specs.Drafts.{drafted}
@@ -17,7 +17,7 @@ returns c =
     let f = ordered (pairTerm (drafted (c .args .row .now)) (c .args .spans .now)) i in
     let l = c .pre .i-within in
     let q = c .pre .ready in
-    three-is _ _ _ _ _ _ _ _ (mostCoordinates * termSize) singleSize sumSize
+    three-is _ _ _ _ _ _ (sumR (c .args .row .now .size) (but (just (pos 0)) i f)) _ (mostCoordinates * termSize) singleSize sumSize
     (c .sum-range-2 .ensures .value) (c .sum-range .ensures .value) (c .square-term-square .ensures) (c .pair-terms-with-pairs .ensures) (c .single-term .ensures)
     (few-size _ termSize (but (just (pos 0)) i f) (q .limits .few) (λ j k. but-size termSize i j f (λ n. two-size q i j n l k))) (singleTerm-size q i l) (omega arith)
     (with-size q i l) (omega arith)

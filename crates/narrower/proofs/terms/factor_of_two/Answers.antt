@@ -1,7 +1,6 @@
 -- Where the indices differ, nothing is left out.
 use native.Mathlib.Omega.{arith}
 use mathlib.Core.Path.{sym, _∙_}
-use mathlib.Core.Bool.{false}
 use Rattle.std.proofs.shelf.Tests.{cond-false, ne-eqb}
 use Rattle.narrower.proofs.RowTerms.{slopeSize, factorTwo-size}
 use Rattle.narrower.proofs.CodeRanges.{product-is}

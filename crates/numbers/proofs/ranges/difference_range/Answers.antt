@@ -1,3 +1,4 @@
+-- The ends are subtracted crosswise, and held.
 use borrow.Author.Needs.{needs}
 use Rattle.numbers.proofs.Characters.{difference-is-enclosed}
 use Rattle.numbers.proofs.ranges.difference_range.Needs as need
