@@ -12,11 +12,11 @@ use Rattle.tighten.specs.declared.reply.Reply.{Reply}
 use Rattle.tighten.specs.declared.wrong.Wrong.{Wrong}
 use Rattle.tighten.specs.Contents.{Contents}
 use Rattle.tighten.specs.Descriptions.{takenAt}
-use Rattle.tighten.specs.Calls.{callReply, callState}
+use Rattle.tighten.specs.Calls.{untold, callReply, callState}
 
--- the reply is the one to a call, which left the state
+-- the reply is the one to a call, but for a number of rounds, and the call left the state
 abbrev pub Called : Reply → Contents → State → State → Type 0
-Called r p s t = (c : Call) × (r ≡ callReply c p s) × (t ≡ callState c p s)
+Called r p s t = (c : Call) × (untold r ≡ callReply c p s) × (t ≡ callState c p s)
 
 -- a line that describes the problem made this of it
 abbrev pub Described : Contents → State → Contents → Type 0

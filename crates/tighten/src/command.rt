@@ -28,11 +28,29 @@ pub enum Reading {
     Row(i64),
 }
 
+/// The layers over a narrower, the outermost first. Stars count from 1, and nobody has looked at their numbers yet.
+#[derive(Clone, Copy)]
+pub enum Layers {
+    Plain,
+    Star(i64),
+    Rounds(usize),
+    StarOfRounds(i64, usize),
+    RoundsOfStar(usize, i64),
+}
+
+/// What to narrow by: layers over a row, or over a row and then another. Rows count from 1.
+#[derive(Clone, Copy)]
+pub struct Plan {
+    pub layers: Layers,
+    pub first: i64,
+    pub second: Option<i64>,
+}
+
 /// A line that calls the placement. Rows count from 1.
 #[derive(Clone, Copy)]
 pub enum Call {
     Make,
-    NarrowRow(i64),
+    Narrow(Plan),
     Read(Reading),
 }
 
@@ -61,17 +79,86 @@ pub fn parse<'a>(line: &'a str) -> Result<Option<Command>, Wrong<'a>> {
 fn parse_call<'a>(first: &'a str, words: &mut Words<'a>) -> Result<Option<Call>, Wrong<'a>> {
     match first {
         "make" => Ok(Some(Call::Make)),
-        "narrow" => Ok(Some(parse_narrowing(words)?)),
+        "narrow" => Ok(Some(Call::Narrow(parse_plan(words)?))),
         "read" => Ok(Some(Call::Read(parse_reading(words)?))),
         _ => Ok(None),
     }
 }
 
 /// What stands after `narrow`.
-fn parse_narrowing<'a>(words: &mut Words<'a>) -> Result<Call, Wrong<'a>> {
+fn parse_plan<'a>(words: &mut Words<'a>) -> Result<Plan, Wrong<'a>> {
+    let (layers, word) = parse_layers(words)?;
+    let first = parse_base(word, words)?;
+    let second = parse_second(words)?;
+    Ok(Plan {
+        layers,
+        first,
+        second,
+    })
+}
+
+/// The layers, and the word after them.
+fn parse_layers<'a>(words: &mut Words<'a>) -> Result<(Layers, &'a str), Wrong<'a>> {
     match words.expect("what to narrow by")? {
-        "row" => Ok(Call::NarrowRow(words.number("the row's number")?)),
+        "star" => parse_below_star(words),
+        "rounds" => parse_below_rounds(words),
+        word => Ok((Layers::Plain, word)),
+    }
+}
+
+/// The layers of which `star` is the outermost, and the word after them.
+fn parse_below_star<'a>(words: &mut Words<'a>) -> Result<(Layers, &'a str), Wrong<'a>> {
+    let star = words.number("the star's number")?;
+    match words.expect("what to narrow by")? {
+        "rounds" => {
+            let rounds = parse_rounds(words)?;
+            let word = words.expect("what to narrow by")?;
+            Ok((Layers::StarOfRounds(star, rounds), word))
+        }
+        word => Ok((Layers::Star(star), word)),
+    }
+}
+
+/// The layers of which `rounds` is the outermost, and the word after them.
+fn parse_below_rounds<'a>(words: &mut Words<'a>) -> Result<(Layers, &'a str), Wrong<'a>> {
+    let rounds = parse_rounds(words)?;
+    match words.expect("what to narrow by")? {
+        "star" => {
+            let star = words.number("the star's number")?;
+            let word = words.expect("what to narrow by")?;
+            Ok((Layers::RoundsOfStar(rounds, star), word))
+        }
+        word => Ok((Layers::Rounds(rounds), word)),
+    }
+}
+
+/// What stands after `rounds`.
+fn parse_rounds<'a>(words: &mut Words<'a>) -> Result<usize, Wrong<'a>> {
+    let given = words.number("the number of rounds")?;
+    match usize::try_from(given) {
+        Ok(rounds) => Ok(rounds),
+        Err(_) => Err(Wrong::NegativeRounds(given)),
+    }
+}
+
+/// The row of a narrower that starts with a word.
+fn parse_base<'a>(first: &'a str, words: &mut Words<'a>) -> Result<i64, Wrong<'a>> {
+    match first {
+        "row" => words.number("the row's number"),
+        "star" | "rounds" => Err(Wrong::MisplacedLayer(first)),
         word => Err(Wrong::UnknownNarrower(word)),
+    }
+}
+
+/// The row after `then`, if there is one.
+fn parse_second<'a>(words: &mut Words<'a>) -> Result<Option<i64>, Wrong<'a>> {
+    match words.next() {
+        None => Ok(None),
+        Some("then") => {
+            let word = words.expect("what to narrow by")?;
+            Ok(Some(parse_base(word, words)?))
+        }
+        Some(word) => Err(Wrong::Extra(word)),
     }
 }
 

@@ -1,5 +1,6 @@
 //! A refusal as a person reads it.
 use crate::command::Call;
+use crate::command::Plan;
 use crate::command::Reading;
 use model::limits::BOX_LIMIT;
 use model::limits::MOST_COORDINATES;
@@ -53,7 +54,17 @@ fn layer_name(layer: Layer) -> &'static str {
 /// What 13 at 0 says of a call.
 fn write_bad_rows<W: fmt::Write>(call: Call, f: &mut fmt::Formatter<W>) -> fmt::Result {
     match call {
-        Call::NarrowRow(k) | Call::Read(Reading::Row(k)) => write!(
+        Call::Narrow(
+            Plan {
+                first,
+                second: Some(second),
+                ..
+            },
+        ) => write!(
+            f,
+            "there is no row {first} or no row {second}: rows count from 1, in the order in which they are described"
+        ),
+        Call::Narrow(Plan { first: k, .. }) | Call::Read(Reading::Row(k)) => write!(
             f,
             "there is no row {k}: rows count from 1, in the order in which they are described"
         ),
@@ -79,7 +90,7 @@ fn write_placement_words<W: fmt::Write>(
         PlacementFault::OtherSize => {
             write!(
                 f,
-                "the narrower is of another size: take one of this problem's size"
+                "the narrower does not fit: the star is missing, since stars count from 1 and have three coordinates each"
             )
         }
         PlacementFault::NotMade => {

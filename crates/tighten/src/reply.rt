@@ -15,6 +15,8 @@ use std::fmt;
 pub enum Reply {
     Made,
     Narrowing(Answer),
+    /// The answer of rounds, and how many they were.
+    Rounds(Answer, usize),
     Size(usize),
     Box(BoxText),
     Standing(Standing),
@@ -27,6 +29,7 @@ pub impl fmt::Display for Reply as ReplyDisplay {
         match self {
             Reply::Made => write!(f, "made"),
             Reply::Narrowing(answer) => f.write_str(answer_word(*answer)),
+            Reply::Rounds(answer, told) => write!(f, "{} told {told}", answer_word(*answer)),
             Reply::Size(size) => write!(f, "size {size}"),
             Reply::Box(text) => write!(f, "{text}"),
             Reply::Standing(standing) => write!(f, "standing {}", standing_word(*standing)),

@@ -11,8 +11,10 @@ use std::fmt;
 pub enum Wrong<'a> {
     /// The first word is none of the words that a line starts with.
     UnknownLine(&'a str),
-    /// The word after `narrow` is no narrower.
+    /// The word where a narrower should stand is none.
     UnknownNarrower(&'a str),
+    /// A layer is given again, or after a row.
+    MisplacedLayer(&'a str),
     /// The word after `read` is nothing that can be read.
     UnknownReading(&'a str),
     /// The line ends before this.
@@ -23,6 +25,8 @@ pub enum Wrong<'a> {
     NotNumber(&'a str),
     /// The size is less than 0.
     NegativeSize(i64),
+    /// The number of rounds is less than 0.
+    NegativeRounds(i64),
     /// The size is given a second time.
     SizeAgain,
     /// The size is not given yet.
@@ -62,9 +66,14 @@ pub impl<'a> fmt::Display for Wrong<'a> as WrongDisplay {
                 f,
                 "a line cannot start with '{word}': it starts with size, span, row, square, pair, single, at-least, at-most, make, narrow or read"
             ),
-            Wrong::UnknownNarrower(word) => {
-                write!(f, "'{word}' is no narrower: write 'narrow row K'")
-            }
+            Wrong::UnknownNarrower(word) => write!(
+                f,
+                "'{word}' is no narrower: write 'narrow [star S] [rounds K] row K [then row K]'"
+            ),
+            Wrong::MisplacedLayer(word) => write!(
+                f,
+                "'{word}' cannot stand here: 'star S' and 'rounds K' stand before the first row, each at most once"
+            ),
             Wrong::UnknownReading(word) => write!(
                 f,
                 "'{word}' cannot be read: write 'read size', 'read box', 'read standing' or 'read row K'"
@@ -76,6 +85,10 @@ pub impl<'a> fmt::Display for Wrong<'a> as WrongDisplay {
                 "'{word}' is not a whole number from -9223372036854775808 to 9223372036854775807"
             ),
             Wrong::NegativeSize(size) => write!(f, "the size cannot be {size}, which is below 0"),
+            Wrong::NegativeRounds(rounds) => write!(
+                f,
+                "the number of rounds cannot be {rounds}, which is below 0"
+            ),
             Wrong::SizeAgain => write!(f, "the size is given a second time"),
             Wrong::NoSize => write!(f, "the size has to be given first, by 'size N'"),
             Wrong::NoRow => write!(f, "a row has to be started first, by 'row'"),
