@@ -23,7 +23,7 @@ decides_le a b = (λ e. grind (arith, ints), λ h. grind (arith, ints))
 pub decides_within : (b : ℕ) (r : Range) → Decides (within b r) (Within b r)
 decides_within b r = Decides-like (within b r)
     (λ h. record { low_in = h.0; straight = h.1.0; high_in = h.1.1 })
-    (λ w. (w.low-in, (w.straight, w.high-in)))
+    (λ w. (w.low_in, (w.straight, w.high_in)))
     (Decides-and _ _ (decides_le _ _) (Decides-and _ _ (decides_le _ _) (decides_le _ _)))
 
 -- the span of each coordinate of a box keeps its limit

@@ -58,7 +58,7 @@ decides_row r = Decides-like (row_fits r)
       high_in = h.1.1.1.1.1.0;
       uncrossed = h.1.1.1.1.1.1;
     })
-    (λ w. ((w.some, w.few), (w.squares-in, (λ j k i l. w.pairs-in i j l k, (w.singles-in, (w.low-in, (w.high-in, w.uncrossed)))))))
+    (λ w. ((w.some, w.few), (w.squares_in, (λ j k i l. w.pairs_in i j l k, (w.singles_in, (w.low_in, (w.high_in, w.uncrossed)))))))
     (Decides-and _ _ (decides_size r.size) (Decides-and _ _ (decides_squares r) (Decides-and _ _ (decides_pairs r) (Decides-and _ _ (decides_singles r) (decides_side r)))))
 
 -- a row that passes its test keeps its limits

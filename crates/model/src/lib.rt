@@ -1,5 +1,6 @@
 //! The model of a placement: spans and boxes, rows and their limits. A *tick* is the length, picked for one group of stars, in which
 //! coordinates are counted.
+#![tactic(auto)]
 
 pub mod draft;
 pub mod held;

@@ -1,6 +1,6 @@
 -- What an answer says of a narrower's map, for a run that is not refused.
 use Rattle.std.proofs.Common.{◌≡◌, ℕ, ◌-◌, ◌<◌, ◌≤◌, Bool, true, false, cond, List, length, take, Some, None, Ok, Err, Option, Result, sym, refl, ap, ◌∙◌, subst, arith, length-take}
-use native.Mathlib.Nat.{sub_zero}
+use native.Mathlib.Nat.{sub-zero}
 use Rattle.std.proofs.lemmas.Bool.Decides.{nat_tests}
 use Rattle.model.specs.declared.span.Span.{Span}
 use Rattle.model.specs.Limits.{most_coordinates}
@@ -46,7 +46,7 @@ box_checked n X few h = box_of_unrefused n X few (unrefused n X h)
 
 -- the copy of a box begins with the box
 pub copy_begins : {n : ℕ} (X V : List Span) → IsBox n X → V ≡ padded X → take (length X - 0) V ≡ X
-copy_begins X V b e = ap (λ m. take m V) (sub_zero (length X)) ∙ ap (take (length X)) e ∙ take-padded X (omega (arith, b.long, b.few))
+copy_begins X V b e = ap (λ m. take m V) (sub-zero (length X)) ∙ ap (take (length X)) e ∙ take-padded X (omega (arith, b.long, b.few))
 
 -- so it is as long
 pub copy_long : {n : ℕ} (X V : List Span) → IsBox n X → V ≡ padded X → length X ≤ length V

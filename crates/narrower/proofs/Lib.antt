@@ -3,3 +3,6 @@ pub mod WorkedRows
 pub mod Answering
 mod CodeRanges
 mod CutSteps
+mod PairSteps
+mod RoundSteps
+mod StarSteps

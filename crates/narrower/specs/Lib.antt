@@ -1,4 +1,4 @@
--- What narrowers mean, refuse and answer, and the rule of one row.
+-- What narrowers mean, refuse and answer, the rule of one row, and the layers.
 pub mod Maps
 pub mod Narrowings
 pub mod Faults
@@ -6,8 +6,12 @@ pub mod Answers
 pub mod OneRow
 pub mod Cuts
 pub mod Examples
+pub mod Layers
+pub mod Rounds
+pub mod Joins
 pub mod RowLaws
 pub mod RowEnclosures
 pub mod RowTerms
 pub mod Meetings
 pub mod Good
+pub mod LayerLaws

@@ -36,15 +36,15 @@ of_ordered P f i j n h k = cond_both (nat_lt i j) (f i j) (f j i) P (λ e. h (lt
 module _ (r : Row) (w : RowWithin r) (X Y : List Span) (s : (i : ℕ) → i < r.size → Sub (at X i) (at Y i)) where
   -- the term with x_i²
   sub_square_term : (i : ℕ) → i < r.size → Sub (square_term r X i) (square_term r Y i)
-  sub_square_term i l = sub_times (sub_refl _ (w.squares-in i l).straight) (sub_square (s i l))
+  sub_square_term i l = sub_times (sub_refl _ (w.squares_in i l).straight) (sub_square (s i l))
 
   -- the term with x_i·x_j
   sub_pair_term : (i j : ℕ) → i < j → j < r.size → Sub (pair_term r X i j) (pair_term r Y i j)
-  sub_pair_term i j k l = sub_times (sub_refl _ (w.pairs-in i j k l).straight) (sub_times (s i (omega arith)) (s j l))
+  sub_pair_term i j k l = sub_times (sub_refl _ (w.pairs_in i j k l).straight) (sub_times (s i (omega arith)) (s j l))
 
   -- the term with x_i alone
   sub_single_term : (i : ℕ) → i < r.size → Sub (single_term r X i) (single_term r Y i)
-  sub_single_term i l = sub_times (sub_refl _ (w.singles-in i l).straight) (s i l)
+  sub_single_term i l = sub_times (sub_refl _ (w.singles_in i l).straight) (s i l)
 
   -- the row's sum
   pub sub_total : Sub (total r X) (total r Y)
@@ -55,14 +55,14 @@ module _ (r : Row) (w : RowWithin r) (X Y : List Span) (s : (i : ℕ) → i < r.
   -- what multiplies x_i
   pub sub_factor : (i : ℕ) → i < r.size → Sub (factor_of r X i) (factor_of r Y i)
   sub_factor i l =
-      sub_plus (sub_times (sub_refl _ (w.squares-in i l).straight) (s i l))
+      sub_plus (sub_times (sub_refl _ (w.squares_in i l).straight) (s i l))
       (sub_plus (sub_sum r.size (skip i (λ j. times (pair_of r i j) (at X j))) (skip i (λ j. times (pair_of r i j) (at Y j)))
       (λ j k. sub_but i j (λ j. times (pair_of r i j) (at X j)) (λ j. times (pair_of r i j) (at Y j))
       (λ n. sub_times (paired j k n) (s j k))))
-      (sub_refl _ (w.singles-in i l).straight))
+      (sub_refl _ (w.singles_in i l).straight))
     where
       paired : (j : ℕ) → j < r.size → (i ≢ j) → Sub (pair_of r i j) (pair_of r i j)
-      paired j k n = of_ordered (λ a. Sub a a) r.pairs i j n (λ h. sub_refl _ (w.pairs-in i j h k).straight) (λ h. sub_refl _ (w.pairs-in j i h l).straight)
+      paired j k n = of_ordered (λ a. Sub a a) r.pairs i j n (λ h. sub_refl _ (w.pairs_in i j h k).straight) (λ h. sub_refl _ (w.pairs_in j i h l).straight)
 
   -- the terms without x_i
   pub sub_rest : (i : ℕ) → Sub (rest_of r X i) (rest_of r Y i)
@@ -135,17 +135,17 @@ module _ (r : Row) (X : List Span) (x : Point) (c : Choice r) (b : (i : ℕ) →
   in_square_term : (i : ℕ) → i < r.size → Between (square_term r X i) (pos (c.over * (x.over * x.over))) (square_at c x i)
   in_square_term i l =
       in_same refl (ring 2 (λ c x. c ⊗ (x ⊗ x) ≐ c ⊗ x ⊗ x) refl (c.square i) (x.place i))
-      (in_times choice_nn (mul_nn over_nn over_nn) (c.squares-in i l) (in_square over_nn (b i l)))
+      (in_times choice_nn (mul_nn over_nn over_nn) (c.squares_in i l) (in_square over_nn (b i l)))
 
   -- the term with x_i·x_j
   in_pair_term : (i j : ℕ) → i < j → j < r.size → Between (pair_term r X i j) (pos (c.over * (x.over * x.over))) (pair_at c x i j)
   in_pair_term i j k l =
       in_same refl (ring 3 (λ c x y. c ⊗ (x ⊗ y) ≐ c ⊗ x ⊗ y) refl (c.pair i j) (x.place i) (x.place j))
-      (in_times choice_nn (mul_nn over_nn over_nn) (c.pairs-in i j k l) (in_times over_nn over_nn (b i (omega arith)) (b j l)))
+      (in_times choice_nn (mul_nn over_nn over_nn) (c.pairs_in i j k l) (in_times over_nn over_nn (b i (omega arith)) (b j l)))
 
   -- the term with x_i alone
   in_single_term : (i : ℕ) → i < r.size → Between (single_term r X i) (pos (c.over * x.over)) (single_at c x i)
-  in_single_term i l = in_times choice_nn over_nn (c.singles-in i l) (b i l)
+  in_single_term i l = in_times choice_nn over_nn (c.singles_in i l) (b i l)
 
   -- what lies in a range lies in it still with the point's denominator once more above and below
   over_more : {a : Range} {z : ℤ} → Between a (pos (c.over * x.over)) z → Between a (pos (c.over * (x.over * x.over))) (pos x.over *ℤ z)
@@ -162,15 +162,15 @@ module _ (r : Row) (X : List Span) (x : Point) (c : Choice r) (b : (i : ℕ) →
   -- what multiplies x_i
   pub in_factor : (i : ℕ) → i < r.size → Between (factor_of r X i) (pos (c.over * x.over)) (factor_at c x i)
   in_factor i l =
-      in_plus (in_times choice_nn over_nn (c.squares-in i l) (b i l))
+      in_plus (in_times choice_nn over_nn (c.squares_in i l) (b i l))
       (in_plus (in_sum r.size (skip i (λ j. times (pair_of r i j) (at X j))) (but (pos 0) i (λ j. ordered c.pair i j *ℤ x.place j))
       (λ j k. in_but i j (λ j. times (pair_of r i j) (at X j)) (λ j. ordered c.pair i j *ℤ x.place j)
       (λ n. in_times choice_nn over_nn (paired j k n (nat_lt i j) refl) (b j k))))
-      (in_more (pos x.over) over_nn (c.singles-in i l)))
+      (in_more (pos x.over) over_nn (c.singles_in i l)))
     where
       paired : (j : ℕ) → j < r.size → (i ≢ j) → (t : Bool) → nat_lt i j ≡ t → Between (cond t (r.pairs i j) (r.pairs j i)) (pos c.over) (cond t (c.pair i j) (c.pair j i))
-      paired j k n true e = c.pairs-in i j (ltb-true i j e) k
-      paired j k n false e = c.pairs-in j i (let l = ltb-false i j e in omega (arith, n)) l
+      paired j k n true e = c.pairs_in i j (ltb-true i j e) k
+      paired j k n false e = c.pairs_in j i (let l = ltb-false i j e in omega (arith, n)) l
 
   -- the terms without x_i
   pub in_rest : (i : ℕ) → Between (rest_of r X i) (pos (c.over * (x.over * x.over))) (rest_at c x i)

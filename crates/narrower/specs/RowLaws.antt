@@ -88,7 +88,7 @@ module _ (r : Row) (w : RowWithin r) where
 
   -- the right side less the terms without x_i is monotone in the box
   sub_left : (X Y : List Span) → ((i : ℕ) → i < r.size → Sub (at X i) (at Y i)) → (i : ℕ) → Sub (left r X i) (left r Y i)
-  sub_left X Y s i = of (side_of r) (rest_of r X i) (rest_of r Y i) (sub_rest r w X Y s i) (low_high r.low r.high w.low-in w.high-in w.uncrossed)
+  sub_left X Y s i = of (side_of r) (rest_of r X i) (rest_of r Y i) (sub_rest r w X Y s i) (low_high r.low r.high w.low_in w.high_in w.uncrossed)
     where
       of : (c a b : Range) → Sub a b → c.0 ≤ℤ c.1 → Sub (minus c a) (minus c b)
       of c a b s k = omega (arith, ints)
@@ -190,7 +190,7 @@ module _ (r : Row) (w : RowWithin r) where
       not_both _ _ (below_true r.low _ _ (total r X).1 some m.low_met t.high) (above_true r.high _ _ (total r X).0 some m.high_met t.low)
     where
       some : 0 < m.choice.over * (x.over * x.over)
-      some = nat.mul_pos m.choice.positive (nat.mul_pos x.positive x.positive)
+      some = nat.mul-pos m.choice.positive (nat.mul-pos x.positive x.positive)
 
   -- a point of the box that meets the row is kept
   row_holds : (X : List Span) (x : Point) → IsBox r.size X → InBox x X → Met (r ∷ []) x → (t : Bool) → misses r (total r X) ≡ t → Holds (unless t X) x

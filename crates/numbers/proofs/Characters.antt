@@ -18,13 +18,13 @@ use Rattle.numbers.proofs.Quotients.{in_over, sub_over}
 pub down_is_greatest_not_above : DownIsGreatestNotAbove
 down_is_greatest_not_above a b n = (
   record { by_positive = λ h. (down_iff {q = down a b} {a = a} h).0 (≤ℤ_refl (down a b)); by_negative = λ h. (down_iff_neg {q = down a b} {a = a} h).0 (≤ℤ_refl (down a b)) },
-  λ q l. by_side b n (λ h. (down_iff {q = q} {a = a} h).1 (l.by-positive h)) (λ h. (down_iff_neg {q = q} {a = a} h).1 (l.by-negative h)),
+  λ q l. by_side b n (λ h. (down_iff {q = q} {a = a} h).1 (l.by_positive h)) (λ h. (down_iff_neg {q = q} {a = a} h).1 (l.by_negative h)),
 )
 
 pub up_is_least_not_below : UpIsLeastNotBelow
 up_is_least_not_below a b n = (
   record { by_positive = λ h. (up_iff {q = up a b} {a = a} h).0 (≤ℤ_refl (up a b)); by_negative = λ h. (up_iff_neg {q = up a b} {a = a} h).0 (≤ℤ_refl (up a b)) },
-  λ q l. by_side b n (λ h. (up_iff {q = q} {a = a} h).1 (l.by-positive h)) (λ h. (up_iff_neg {q = q} {a = a} h).1 (l.by-negative h)),
+  λ q l. by_side b n (λ h. (up_iff {q = q} {a = a} h).1 (l.by_positive h)) (λ h. (up_iff_neg {q = q} {a = a} h).1 (l.by_negative h)),
 )
 
 -- ---- ranges

@@ -5,15 +5,18 @@ use Rattle.std.proofs.lemmas.Bool.Decides.{nat_tests}
 use Rattle.model.specs.declared.span.Span.{Span}
 use Rattle.model.specs.declared.draft.RowDraft.{RowDraft}
 use Rattle.model.specs.Limits.{most_coordinates, most_rows}
-use Rattle.model.specs.Firsts.{missing}
 use Rattle.model.specs.Boxes.{IsBox, bad_span}
 use Rattle.model.specs.Rows.{size_fits}
 use Rattle.model.specs.Drafts.{bad_row}
-use Rattle.model.proofs.Firsts.{none_of_missing}
 use Rattle.model.proofs.Boxes.{box_of_unbad, unbad_of_box}
 use Rattle.placement.specs.declared.standing.Standing.{Standing}
 use Rattle.placement.specs.declared.standing.Standing.TheVariants.{Unmade, Open, Nowhere}
-use Rattle.placement.specs.Held.{sound, kept}
+use Rattle.placement.specs.Held.{missing, sound, kept}
+
+-- what is missing is none
+none_of_missing : (o : Option ℕ) → missing o ≡ true → o ≡ None
+none_of_missing None h = refl
+none_of_missing (Some k) h = cc
 
 -- the test of what is held, with the place of the first bad span
 abbrev pub sound_by : ℕ → Option ℕ → List RowDraft → Bool
@@ -60,15 +63,3 @@ module _ (n : ℕ) (S : List Span) (ds : List RowDraft) (h : sound n S ds ≡ tr
   sound_of_box Z b d =
       let same : bad_span (take n Z) ≡ bad_span (take n S) = unbad_of_box (take n Z) d ∙ sym (unbad_of_box (take n S) b) in
       ap (λ o. sound_by n o ds) same ∙ h
-
-  -- the size is from 1 to 9
-  pub size_of_sound : size_fits n ≡ true
-  size_of_sound = (and_parts (size_fits n) _ h).0
-
-  -- there are at most sixteen rows
-  pub few_of_sound : length ds ≤ most_rows
-  few_of_sound = let e = (and_parts (leb (length ds) most_rows) (missing (bad_row n ds)) after_spans).0 in grind (arith, nat_tests)
-
-  -- none of them is bad, as a test
-  pub unbad_of_sound : missing (bad_row n ds) ≡ true
-  unbad_of_sound = (and_parts (leb (length ds) most_rows) (missing (bad_row n ds)) after_spans).1

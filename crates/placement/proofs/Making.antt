@@ -5,7 +5,6 @@ use Rattle.std.proofs.lemmas.Bool.Decides.{nat_tests}
 use Rattle.model.specs.declared.span.Span.{Span}
 use Rattle.model.specs.declared.draft.RowDraft.{RowDraft}
 use Rattle.model.specs.Limits.{most_coordinates, most_rows}
-use Rattle.model.specs.Firsts.{missing}
 use Rattle.model.specs.Boxes.{bad_span, padded}
 use Rattle.model.specs.Rows.{size_fits}
 use Rattle.model.specs.Drafts.{bad_row}
@@ -13,7 +12,7 @@ use Rattle.model.proofs.Same.{take-padded}
 use Rattle.narrower.specs.declared.faults.PlacementFault.{PlacementFault}
 use Rattle.narrower.specs.declared.faults.PlacementFault.TheVariants.{Size, BadRow}
 use Rattle.placement.specs.declared.standing.Standing.TheVariants.{Unmade, Open}
-use Rattle.placement.specs.Held.{sound}
+use Rattle.placement.specs.Held.{missing, sound}
 use Rattle.placement.specs.States.{State, refused_by}
 use Rattle.placement.specs.Makes.{at_row, at_span, contents_refusal, make_answer, make_state, made_by, make_refusal}
 use Rattle.placement.proofs.Boxing.{sound_by}

@@ -1,5 +1,5 @@
 -- What a call comes to, by what the problem holds and the state of the placement.
-use Rattle.std.specs.Prelude.{List, length, Some, None, Ok, Err, Option, Result, count_ones}
+use Rattle.std.specs.Prelude.{List, length, ℤ, Some, None, Ok, Err, Option, Result}
 use Rattle.model.specs.declared.span.Span.{Span}
 use Rattle.model.specs.declared.draft.RowDraft.{RowDraft}
 use Rattle.model.specs.Boxes.{padded}
@@ -8,28 +8,22 @@ use Rattle.narrower.specs.declared.answer.Answer.{Answer}
 use Rattle.narrower.specs.declared.faults.PlacementFault.{PlacementFault}
 use Rattle.narrower.specs.Narrowings.{Narrowing}
 use Rattle.narrower.specs.OneRow.{row_narrowing}
-use Rattle.layers.specs.Layers.{pair_of, rounds_of, star_of}
-use Rattle.certificate.specs.Certificates.{Told}
+use Rattle.narrower.specs.Layers.{pair_of, rounds_of, star_of}
 use Rattle.placement.specs.States.{State}
 use Rattle.placement.specs.Makes.{make_answer, make_state}
-use Rattle.placement.specs.Checks.{check_answer, check_told}
 use Rattle.placement.specs.Narrows.{narrow_answer, narrow_state}
 use Rattle.placement.specs.Reads.{read_size, read_box, read_standing, read_row}
-use Rattle.tighten.specs.declared.command.Base.{Base}
-use Rattle.tighten.specs.declared.command.Base.TheVariants as base
 use Rattle.tighten.specs.declared.command.Call.{Call}
-use Rattle.tighten.specs.declared.command.Call.TheVariants.{Make, Check, Narrow, Read}
+use Rattle.tighten.specs.declared.command.Call.TheVariants.{Make, Narrow, Read}
 use Rattle.tighten.specs.declared.command.Layers.{Layers}
 use Rattle.tighten.specs.declared.command.Layers.TheVariants.{Plain, Star, Rounds, StarOfRounds, RoundsOfStar}
 use Rattle.tighten.specs.declared.command.Plan.{Plan}
-use Rattle.tighten.specs.declared.proposal.Proposal.{Proposal}
 use Rattle.tighten.specs.declared.command.Reading.{Reading}
 use Rattle.tighten.specs.declared.command.Reading.TheVariants as reading
 use Rattle.tighten.specs.declared.spans_text.BoxText.{BoxText}
 use Rattle.tighten.specs.declared.reply.Reply.{Reply}
 use Rattle.tighten.specs.declared.reply.Reply.TheVariants as reply
 use Rattle.tighten.specs.Contents.{Contents, size_of, box_of, ordinal_of}
-use Rattle.tighten.specs.Proposals.{weights_of, order_of}
 
 -- an answer as what is told of it; a refusal stays one
 abbrev pub told : {A : Type 0} → (A → Reply) → Result A PlacementFault → Result Reply PlacementFault
@@ -48,7 +42,6 @@ box_text X = record { size = length X; spans = padded X }
 -- a reply without the number of rounds, for which 0 stands: the number is told and not fixed here
 abbrev pub untold : Reply → Reply
 untold reply.Made = reply.Made
-untold (reply.Checked k) = reply.Checked k
 untold (reply.Narrowing a) = reply.Narrowing a
 untold (reply.Rounds a n) = reply.Rounds a 0
 untold (reply.Size n) = reply.Size n
@@ -89,15 +82,10 @@ pair_by (Ok a) (Ok b) = Ok (pair_of a b)
 pair_by (Ok a) (Err e) = Err e
 pair_by (Err e) b = Err e
 
--- the narrowing of a base: of a row that is read, or what the certificate means
-abbrev pub base_of : Base → State → Told → Result Narrowing PlacementFault
-base_of (base.Row i) s t = one_by (read_row (ordinal_of i) s)
-base_of base.Certificate s t = Ok t.means
-
--- the narrowing of a base, and then of another if there is one, where rows are read from left to right
-abbrev pub bases_of : Base → Option Base → State → Told → Result Narrowing PlacementFault
-bases_of a None s t = base_of a s t
-bases_of a (Some b) s t = pair_by (base_of a s t) (base_of b s t)
+-- the narrowing of a row, and then of another if there is one, where the rows are read from left to right
+abbrev pub base_of : ℤ → Option ℤ → State → Result Narrowing PlacementFault
+base_of i None s = one_by (read_row (ordinal_of i) s)
+base_of i (Some j) s = pair_by (one_by (read_row (ordinal_of i) s)) (one_by (read_row (ordinal_of j) s))
 
 -- what narrowing by layers over a narrowing answers, if there is one
 abbrev pub answer_by : Layers → Result Narrowing PlacementFault → State → Result Reply PlacementFault
@@ -110,20 +98,12 @@ state_by l (Ok N) s = narrow_state (layered l N) s
 state_by l (Err e) s = s
 
 -- what narrowing by a plan answers
-abbrev pub narrow_reply : Plan → State → Told → Result Reply PlacementFault
-narrow_reply b s t = answer_by b.layers (bases_of b.first b.second s t) s
+abbrev pub narrow_reply : Plan → State → Result Reply PlacementFault
+narrow_reply b s = answer_by b.layers (base_of b.first b.second s) s
 
 -- the state that narrowing by a plan leaves
-abbrev pub narrow_left : Plan → State → Told → State
-narrow_left b s t = state_by b.layers (bases_of b.first b.second s t) s
-
--- what a certificate that told t tells after a check of what is proposed
-abbrev pub told_after : Proposal → State → Told → Told
-told_after p s t = check_told (weights_of p) (order_of p) s t
-
--- what a check of what is proposed answers: how many marks are then set
-abbrev pub check_reply : Proposal → State → Told → Result Reply PlacementFault
-check_reply p s t = told (λ _. reply.Checked (count_ones (told_after p s t).marks)) (check_answer (weights_of p) (order_of p) s)
+abbrev pub narrow_left : Plan → State → State
+narrow_left b s = state_by b.layers (base_of b.first b.second s) s
 
 -- what a reading answers
 abbrev pub read_answer : Reading → State → Result Reply PlacementFault
@@ -133,26 +113,17 @@ read_answer reading.Standing s = told reply.Standing (read_standing s)
 read_answer (reading.Row k) s = told (reply.Row k) (read_row (ordinal_of k) s)
 
 -- what a call answers
-abbrev pub call_answer : Call → Contents → State → Told → Result Reply PlacementFault
-call_answer Make p s t = told (λ _. reply.Made) (make_answer s (size_of p) (box_of p) p.rows)
-call_answer (Check q) p s t = check_reply q s t
-call_answer (Narrow b) p s t = narrow_reply b s t
-call_answer (Read what) p s t = read_answer what s
+abbrev pub call_answer : Call → Contents → State → Result Reply PlacementFault
+call_answer Make p s = told (λ _. reply.Made) (make_answer s (size_of p) (box_of p) p.rows)
+call_answer (Narrow b) p s = narrow_reply b s
+call_answer (Read what) p s = read_answer what s
 
 -- the reply to a call, without a number of rounds
-abbrev pub call_reply : Call → Contents → State → Told → Reply
-call_reply c p s t = reply_to c (call_answer c p s t)
+abbrev pub call_reply : Call → Contents → State → Reply
+call_reply c p s = reply_to c (call_answer c p s)
 
 -- the state that a call leaves
-abbrev pub call_state : Call → Contents → State → Told → State
-call_state Make p s t = make_state s (size_of p) (box_of p) p.rows
-call_state (Check q) p s t = s
-call_state (Narrow b) p s t = narrow_left b s t
-call_state (Read what) p s t = s
-
--- what the certificate tells after a call
-abbrev pub call_told : Call → State → Told → Told
-call_told Make s t = t
-call_told (Check q) s t = told_after q s t
-call_told (Narrow b) s t = t
-call_told (Read what) s t = t
+abbrev pub call_state : Call → Contents → State → State
+call_state Make p s = make_state s (size_of p) (box_of p) p.rows
+call_state (Narrow b) p s = narrow_left b s
+call_state (Read what) p s = s

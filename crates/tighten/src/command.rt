@@ -3,8 +3,7 @@
 ghost use Rattle.std.specs.Prelude.{◌≡◌};
 ghost use Rattle.tighten.specs.Contents.{ordinal_of};
 
-use crate::proposal::Proposal;
-use crate::words::{Words, whole_number};
+use crate::words::Words;
 use crate::wrong::Wrong;
 use model::span::Span;
 
@@ -40,26 +39,18 @@ pub enum Layers {
     RoundsOfStar(usize, i64),
 }
 
-/// What layers stand over: a row, or the certificate that was written last. Rows count from 1.
-#[derive(Clone, Copy)]
-pub enum Base {
-    Row(i64),
-    Certificate,
-}
-
-/// What to narrow by: layers over a base, or over a base and then another.
+/// What to narrow by: layers over a row, or over a row and then another. Rows count from 1.
 #[derive(Clone, Copy)]
 pub struct Plan {
     pub layers: Layers,
-    pub first: Base,
-    pub second: Option<Base>,
+    pub first: i64,
+    pub second: Option<i64>,
 }
 
-/// A line that calls the placement.
+/// A line that calls the placement. Rows count from 1.
 #[derive(Clone, Copy)]
 pub enum Call {
     Make,
-    Check(Proposal),
     Narrow(Plan),
     Read(Reading),
 }
@@ -89,29 +80,9 @@ pub fn parse<'a>(line: &'a str) -> Result<Option<Command>, Wrong<'a>> {
 fn parse_call<'a>(first: &'a str, words: &mut Words<'a>) -> Result<Option<Call>, Wrong<'a>> {
     match first {
         "make" => Ok(Some(Call::Make)),
-        "check" => Ok(Some(Call::Check(parse_proposal(words)?))),
         "narrow" => Ok(Some(Call::Narrow(parse_plan(words)?))),
         "read" => Ok(Some(Call::Read(parse_reading(words)?))),
         _ => Ok(None),
-    }
-}
-
-/// What stands after `check`: weights, `;` and an order.
-fn parse_proposal<'a>(words: &mut Words<'a>) -> Result<Proposal, Wrong<'a>> {
-    let mut proposal = Proposal::new();
-    let mut parted = false;
-    for word in words.rest() {
-        match (word, parted) {
-            (";", false) => parted = true,
-            (";", true) => return Err(Wrong::PartedAgain),
-            (_, false) => proposal.weigh(whole_number(word)?),
-            (_, true) => proposal.enter(ordinal(whole_number(word)?)),
-        }
-    }
-    if parted {
-        Ok(proposal)
-    } else {
-        Err(Wrong::Missing("the ';' between the weights and the order"))
     }
 }
 
@@ -171,18 +142,17 @@ fn parse_rounds<'a>(words: &mut Words<'a>) -> Result<usize, Wrong<'a>> {
     }
 }
 
-/// The base that starts with a word.
-fn parse_base<'a>(first: &'a str, words: &mut Words<'a>) -> Result<Base, Wrong<'a>> {
+/// The row of a narrower that starts with a word.
+fn parse_base<'a>(first: &'a str, words: &mut Words<'a>) -> Result<i64, Wrong<'a>> {
     match first {
-        "row" => Ok(Base::Row(words.number("the row's number")?)),
-        "certificate" => Ok(Base::Certificate),
+        "row" => words.number("the row's number"),
         "star" | "rounds" => Err(Wrong::MisplacedLayer(first)),
         word => Err(Wrong::UnknownNarrower(word)),
     }
 }
 
-/// The base after `then`, if there is one.
-fn parse_second<'a>(words: &mut Words<'a>) -> Result<Option<Base>, Wrong<'a>> {
+/// The row after `then`, if there is one.
+fn parse_second<'a>(words: &mut Words<'a>) -> Result<Option<i64>, Wrong<'a>> {
     match words.next() {
         None => Ok(None),
         Some("then") => {

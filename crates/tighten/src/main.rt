@@ -1,9 +1,7 @@
 //! A program that reads a problem and calls on it, and tells what each call came to.
 mod command;
 mod failure;
-mod piece;
 mod problem;
-mod proposal;
 mod refusal;
 mod reply;
 mod row_text;

@@ -11,8 +11,6 @@ use std::fmt;
 #[derive(Clone, Copy)]
 pub enum Reply {
     Made,
-    /// How many marks the certificate has.
-    Checked(u32),
     Narrowing(Answer),
     /// The answer of rounds, and how many they were.
     Rounds(Answer, usize),
@@ -27,8 +25,6 @@ impl fmt::Display for Reply {
     fn fmt<W: fmt::Write>(&self, f: &mut fmt::Formatter<W>) -> fmt::Result {
         match self {
             Reply::Made => write!(f, "made"),
-            Reply::Checked(1) => write!(f, "checked 1 mark"),
-            Reply::Checked(marks) => write!(f, "checked {marks} marks"),
             Reply::Narrowing(answer) => f.write_str(answer_word(*answer)),
             Reply::Rounds(answer, told) => write!(f, "{} told {told}", answer_word(*answer)),
             Reply::Size(size) => write!(f, "size {size}"),

@@ -1,46 +1,40 @@
-//! A run of the program: the problem, the placement that is made of it, the certificate that was written last, and the calls so far.
+//! A run of the program: the problem, the placement that is made of it, and the calls so far.
 
 ghost use Rattle.std.specs.Prelude.{◌≡◌, IfOk, OnErr, OnOk};
-ghost use Rattle.certificate.specs.Certificates.{told_of, nothing_told};
 ghost use Rattle.placement.specs.States.{state_of, unmade};
 ghost use Rattle.placement.specs.Makes.{make_answer, make_state};
 ghost use Rattle.placement.specs.Narrows.{narrow_answer, narrow_state};
-ghost use Rattle.layers.specs.Layers.{rounds_of, star_of};
+ghost use Rattle.narrower.specs.Layers.{rounds_of, star_of};
 ghost use Rattle.tighten.specs.declared.reply.Reply.TheVariants as reply;
 ghost use Rattle.tighten.specs.Contents.{contents_of, unknown, size_of, box_of, ordinal_of};
 ghost use Rattle.tighten.specs.Descriptions.{taken_at, TakenIn};
 ghost use Rattle.tighten.specs.Obeying.{Obeyed};
-ghost use Rattle.tighten.specs.Pieces.{meant};
-ghost use Rattle.tighten.specs.Calls.{told, untold, untold_answer, reply_to, reply_by, layered, base_of, narrow_reply, narrow_left, check_reply, told_after, read_answer, call_reply, call_state, call_told};
+ghost use Rattle.tighten.specs.Calls.{told, untold, untold_answer, reply_to, reply_by, layered, narrow_reply, narrow_left, read_answer, call_reply, call_state};
 
-use crate::command::{Base, Call, Command, Description, Layers, Plan, Reading, ordinal, parse};
-use crate::piece::Piece;
+use crate::command::{Call, Command, Description, Layers, Plan, Reading, ordinal, parse};
 use crate::problem::Problem;
-use crate::proposal::Proposal;
 use crate::refusal::Refusal;
 use crate::reply::Reply;
 use crate::spans_text::BoxText;
 use crate::summary::{Narrowing, Outcome, Summary};
 use crate::wrong::Wrong;
-use certificate::certificate::Certificate;
-use layers::pair::Pair;
-use layers::rounds::Rounds;
-use layers::star::Star;
 use model::draft::RowDraft;
 use narrower::faults::PlacementFault;
 use narrower::interface::Narrower;
 use narrower::one_row::OneRow;
+use narrower::pair::Pair;
+use narrower::rounds::Rounds;
+use narrower::star::Star;
 use placement::placement::Placement;
 use placement::standing::Standing;
 use std::alloc::{AllocError, Global};
 
-/// A problem, its placement, its certificate, and how many calls there were and how many of them were refused.
+/// A problem, its placement, and how many calls there were and how many of them were refused.
 #[derive(Drop)]
 pub struct Session {
     heap: Global,
     problem: Problem,
     placement: Placement,
-    certificate: Certificate,
     calls: u64,
     refused: u64,
 }
@@ -48,13 +42,12 @@ pub struct Session {
 impl Session {
     /// A run before its first line.
     pub fn new(heap: Global) -> Session
-        ensures { (contents_of result.problem ≡ unknown) × (state_of result.placement ≡ unmade) × (told_of result.certificate ≡ nothing_told) }
+        ensures { (contents_of result.problem ≡ unknown) × (state_of result.placement ≡ unmade) }
     {
         Session {
             heap,
             problem: Problem::new(heap),
             placement: Placement::new(heap),
-            certificate: Certificate::new(),
             calls: 0,
             refused: 0,
         }
@@ -62,7 +55,7 @@ impl Session {
 
     /// Does what a line says; a call has a reply.
     pub fn obey<'a>(&mut self, line: &'a str) -> Result<Option<Reply>, Wrong<'a>>
-        ensures { Obeyed result (contents_of self.old.problem) (state_of self.old.placement) (told_of self.old.certificate) (contents_of self.new.problem) (state_of self.new.placement) (told_of self.new.certificate) }
+        ensures { Obeyed result (contents_of self.old.problem) (state_of self.old.placement) (contents_of self.new.problem) (state_of self.new.placement) }
     {
         match parse(line)? {
             None => Ok(None),
@@ -77,7 +70,7 @@ impl Session {
     /// Takes in a line of the problem, which cannot be changed once it is made.
     fn describe<'a>(&mut self, line: Description) -> Result<(), Wrong<'a>>
         ensures taken { TakenIn result (taken_at (state_of self.old.placement).standing line (contents_of self.old.problem)) (contents_of self.old.problem) (contents_of self.new.problem) }
-        ensures same { (self.new.placement ≡ self.old.placement) × (self.new.certificate ≡ self.old.certificate) }
+        ensures same { self.new.placement ≡ self.old.placement }
     {
         if self.placement.size().is_ok() {
             return Err(Wrong::AfterMake);
@@ -87,10 +80,9 @@ impl Session {
 
     /// Makes a call and counts it.
     fn answer(&mut self, call: Call) -> Result<Reply, AllocError>
-        ensures answer { IfOk result (λ reply. untold reply ≡ call_reply call (contents_of self.old.problem) (state_of self.old.placement) (told_of self.old.certificate)) }
-        ensures after { OnOk result (state_of self.new.placement ≡ call_state call (contents_of self.old.problem) (state_of self.old.placement) (told_of self.old.certificate)) }
-        ensures told { OnOk result (told_of self.new.certificate ≡ call_told call (state_of self.old.placement) (told_of self.old.certificate)) }
-        ensures refused { OnErr result ((state_of self.new.placement ≡ state_of self.old.placement) × (told_of self.new.certificate ≡ told_of self.old.certificate)) }
+        ensures answer { IfOk result (λ reply. untold reply ≡ call_reply call (contents_of self.old.problem) (state_of self.old.placement)) }
+        ensures after { OnOk result (state_of self.new.placement ≡ call_state call (contents_of self.old.problem) (state_of self.old.placement)) }
+        ensures refused { OnErr result (state_of self.new.placement ≡ state_of self.old.placement) }
         ensures same { self.new.problem ≡ self.old.problem }
     {
         let answer = match call {
@@ -98,7 +90,6 @@ impl Session {
                 let rows = self.problem.rows(self.heap)?;
                 self.make(rows)
             }
-            Call::Check(proposal) => self.check(&proposal),
             Call::Narrow(plan) => self.narrow(plan),
             Call::Read(what) => self.read(what),
         };
@@ -108,7 +99,7 @@ impl Session {
     /// Counts a call, and gives the reply to it.
     fn count(&mut self, call: Call, answer: Result<Reply, PlacementFault>) -> Reply
         ensures value { untold result ≡ reply_to call (untold_answer answer) }
-        ensures same { (self.new.problem ≡ self.old.problem) × (self.new.placement ≡ self.old.placement) × (self.new.certificate ≡ self.old.certificate) }
+        ensures same { (self.new.problem ≡ self.old.problem) × (self.new.placement ≡ self.old.placement) }
     {
         self.calls = self.calls.saturating_add(1);
         match answer {
@@ -124,44 +115,25 @@ impl Session {
     fn make(&mut self, rows: Vec<RowDraft>) -> Result<Reply, PlacementFault>
         ensures answer { untold_answer result ≡ told (λ _. reply.Made) (make_answer (state_of self.old.placement) (size_of (contents_of self.old.problem)) (box_of (contents_of self.old.problem)) rows.items) }
         ensures after { state_of self.new.placement ≡ make_state (state_of self.old.placement) (size_of (contents_of self.old.problem)) (box_of (contents_of self.old.problem)) rows.items }
-        ensures same { (self.new.problem ≡ self.old.problem) × (self.new.certificate ≡ self.old.certificate) }
+        ensures same { self.new.problem ≡ self.old.problem }
     {
         let size = self.problem.size();
         self.placement.make(size, self.problem.spans(), rows)?;
         Ok(Reply::Made)
     }
 
-    /// Checks what is proposed, and writes the certificate if it is accepted.
-    fn check(&mut self, proposal: &Proposal) -> Result<Reply, PlacementFault>
-        ensures answer { untold_answer result ≡ check_reply proposal.now (state_of self.old.placement) (told_of self.old.certificate) }
-        ensures told { told_of self.new.certificate ≡ told_after proposal.now (state_of self.old.placement) (told_of self.old.certificate) }
-        ensures same { (self.new.problem ≡ self.old.problem) × (self.new.placement ≡ self.old.placement) }
-    {
-        self.placement.check(proposal.weights(), proposal.order(), &mut self.certificate)?;
-        Ok(Reply::Checked(self.certificate.marked()))
-    }
-
-    /// The narrower of a base.
-    fn piece(&self, base: Base) -> Result<Piece<OneRow, Certificate>, PlacementFault>
-        ensures { meant result ≡ base_of base (state_of self.now.placement) (told_of self.now.certificate) }
-    {
-        match base {
-            Base::Row(k) => Ok(Piece::Row(OneRow::new(self.placement.row(ordinal(k))?))),
-            Base::Certificate => Ok(Piece::Written(self.certificate)),
-        }
-    }
-
-    /// Takes the bases, from left to right, and narrows once by the layers over them.
+    /// Reads the rows, from left to right, and narrows once by the layers over them.
     fn narrow(&mut self, plan: Plan) -> Result<Reply, PlacementFault>
-        ensures answer { untold_answer result ≡ narrow_reply plan (state_of self.old.placement) (told_of self.old.certificate) }
-        ensures after { state_of self.new.placement ≡ narrow_left plan (state_of self.old.placement) (told_of self.old.certificate) }
-        ensures same { (self.new.problem ≡ self.old.problem) × (self.new.certificate ≡ self.old.certificate) }
+        ensures answer { untold_answer result ≡ narrow_reply plan (state_of self.old.placement) }
+        ensures after { state_of self.new.placement ≡ narrow_left plan (state_of self.old.placement) }
+        ensures same { self.new.problem ≡ self.old.problem }
     {
-        let first = self.piece(plan.first)?;
+        let first = self.placement.row(ordinal(plan.first))?;
         match plan.second {
-            None => self.narrow_layered(plan.layers, first),
-            Some(base) => {
-                let pair = Pair::new(first, self.piece(base)?);
+            None => self.narrow_layered(plan.layers, OneRow::new(first)),
+            Some(k) => {
+                let second = self.placement.row(ordinal(k))?;
+                let pair = Pair::new(OneRow::new(first), OneRow::new(second));
                 self.narrow_layered(plan.layers, pair)
             }
         }
@@ -175,7 +147,7 @@ impl Session {
     ) -> Result<Reply, PlacementFault>
         ensures answer { untold_answer result ≡ told (reply_by layers) (narrow_answer (layered layers (means base)) (state_of self.old.placement)) }
         ensures after { state_of self.new.placement ≡ narrow_state (layered layers (means base)) (state_of self.old.placement) }
-        ensures same { (self.new.problem ≡ self.old.problem) × (self.new.certificate ≡ self.old.certificate) }
+        ensures same { self.new.problem ≡ self.old.problem }
     {
         match layers {
             Layers::Plain => self.narrow_by(base),
@@ -190,7 +162,7 @@ impl Session {
     fn narrow_by<N: Narrower + Drop>(&mut self, mut by: N) -> Result<Reply, PlacementFault>
         ensures answer { untold_answer result ≡ told reply.Narrowing (narrow_answer (means by) (state_of self.old.placement)) }
         ensures after { state_of self.new.placement ≡ narrow_state (means by) (state_of self.old.placement) }
-        ensures same { (self.new.problem ≡ self.old.problem) × (self.new.certificate ≡ self.old.certificate) }
+        ensures same { self.new.problem ≡ self.old.problem }
     {
         let answer = self.placement.narrow(&mut by)?;
         Ok(Reply::Narrowing(answer))
@@ -204,7 +176,7 @@ impl Session {
     ) -> Result<Reply, PlacementFault>
         ensures answer { untold_answer result ≡ told reply.Narrowing (narrow_answer (star_of (ordinal_of star) (means below)) (state_of self.old.placement)) }
         ensures after { state_of self.new.placement ≡ narrow_state (star_of (ordinal_of star) (means below)) (state_of self.old.placement) }
-        ensures same { (self.new.problem ≡ self.old.problem) × (self.new.certificate ≡ self.old.certificate) }
+        ensures same { self.new.problem ≡ self.old.problem }
     {
         let place = ordinal(star);
         let by = Star::new(below, place);
@@ -219,7 +191,7 @@ impl Session {
     ) -> Result<Reply, PlacementFault>
         ensures answer { untold_answer result ≡ told (λ a. reply.Rounds a 0) (narrow_answer (rounds_of rounds (means below)) (state_of self.old.placement)) }
         ensures after { state_of self.new.placement ≡ narrow_state (rounds_of rounds (means below)) (state_of self.old.placement) }
-        ensures same { (self.new.problem ≡ self.old.problem) × (self.new.certificate ≡ self.old.certificate) }
+        ensures same { self.new.problem ≡ self.old.problem }
     {
         let mut by = Rounds::new(below, rounds);
         let answer = self.placement.narrow(&mut by)?;

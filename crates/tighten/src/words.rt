@@ -1,7 +1,6 @@
 //! The words of a line of input.
 use crate::wrong::Wrong;
 use model::span::Span;
-use std::mem;
 use std::str::SplitWhitespace;
 
 /// The words of a line that are still to be read. They are parted by blanks, and a comment, from `#` to the end, has none.
@@ -50,11 +49,6 @@ impl<'a> Words<'a> {
         }
     }
 
-    /// All words that are left, of which none is left then.
-    pub fn rest(&mut self) -> SplitWhitespace<'a> {
-        mem::replace(&mut self.rest, "".split_whitespace())
-    }
-
     /// Nothing, where no word is left.
     pub fn end(&mut self) -> Result<(), Wrong<'a>> {
         match self.next() {
@@ -65,7 +59,7 @@ impl<'a> Words<'a> {
 }
 
 /// A word as a whole number: decimal digits, with `-` before them where it is negative.
-pub fn whole_number(word: &str) -> Result<i64, Wrong<'_>> {
+fn whole_number(word: &str) -> Result<i64, Wrong<'_>> {
     if word.starts_with('+') {
         return Err(Wrong::NotNumber(word));
     }

@@ -13,10 +13,8 @@ pub enum Wrong<'a> {
     UnknownLine(&'a str),
     /// The word where a narrower should stand is none.
     UnknownNarrower(&'a str),
-    /// A layer is given again, or after what it should stand over.
+    /// A layer is given again, or after a row.
     MisplacedLayer(&'a str),
-    /// A second `;` in a check.
-    PartedAgain,
     /// The word after `read` is nothing that can be read.
     UnknownReading(&'a str),
     /// The line ends before this.
@@ -66,19 +64,15 @@ impl<'a> fmt::Display for Wrong<'a> {
         match self {
             Wrong::UnknownLine(word) => write!(
                 f,
-                "a line cannot start with '{word}': it starts with size, span, row, square, pair, single, at-least, at-most, make, check, narrow or read"
+                "a line cannot start with '{word}': it starts with size, span, row, square, pair, single, at-least, at-most, make, narrow or read"
             ),
             Wrong::UnknownNarrower(word) => write!(
                 f,
-                "'{word}' is no narrower: write 'narrow [star S] [rounds K] BASE [then BASE]', where BASE is 'row K' or 'certificate'"
+                "'{word}' is no narrower: write 'narrow [star S] [rounds K] row K [then row K]'"
             ),
             Wrong::MisplacedLayer(word) => write!(
                 f,
-                "'{word}' cannot stand here: 'star S' and 'rounds K' stand before the first row or certificate, each at most once"
-            ),
-            Wrong::PartedAgain => write!(
-                f,
-                "there is a second ';': write 'check W1 W2 .. ; I1 I2 ..', with one ';' between the weights and the order"
+                "'{word}' cannot stand here: 'star S' and 'rounds K' stand before the first row, each at most once"
             ),
             Wrong::UnknownReading(word) => write!(
                 f,

@@ -82,23 +82,6 @@ pub fn narrowed(
     answered(heap, &placement, result)
 }
 
-/// The outcome of making a placement of the circle and the product, and narrowing it by one of these rows.
-fn narrowed_of_two(heap: Global, spans: &[Span], k: usize) -> Result<String, AllocError> {
-    let mut placement = Placement::new(heap);
-    let rows = vec![in heap; circle(), product_at_most()]?;
-    if let Err(fault) = placement.make(spans.len(), spans, rows) {
-        return refused(heap, fault);
-    }
-    match placement.row(k) {
-        Ok(held) => {
-            let mut by = OneRow::new(held);
-            let result = placement.narrow(&mut by);
-            answered(heap, &placement, result)
-        }
-        Err(fault) => refused(heap, fault),
-    }
-}
-
 /// The worked examples of the one-row rule.
 pub fn of_one_row(heap: Global, cases: &mut Vec<Case>) -> Result<(), AllocError> {
     let ten = [Span::new(-10, 10)];
@@ -113,15 +96,15 @@ pub fn of_one_row(heap: Global, cases: &mut Vec<Case>) -> Result<(), AllocError>
     )?;
     note(
         cases,
-        "x1^2 + x2^2 <= 2, x1 x2 <= -2 on [-2,2] [-2,2], row 1",
+        "x1^2 + x2^2 <= 2 on [-2,2] [-2,2], row 1",
         "stood [-2,2] [-2,2]",
-        narrowed_of_two(heap, &two, 1)?,
+        narrowed(heap, &two, circle(), 1)?,
     )?;
     note(
         cases,
-        "x1^2 + x2^2 <= 2, x1 x2 <= -2 on [-2,2] [-2,2], row 2",
+        "x1 x2 <= -2 on [-2,2] [-2,2], row 1",
         "stood [-2,2] [-2,2]",
-        narrowed_of_two(heap, &two, 2)?,
+        narrowed(heap, &two, product_at_most(), 1)?,
     )?;
     note(
         cases,

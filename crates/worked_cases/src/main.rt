@@ -1,8 +1,6 @@
 //! Runs the worked cases and the edges through the public calls, and prints what was expected beside what came.
 
 mod cases;
-mod certificate_edges;
-mod certificates;
 mod edges;
 mod outcome;
 mod problems;
@@ -14,23 +12,12 @@ use std::alloc::{AllocError, Global};
 fn all(heap: Global) -> Result<Vec<Case>, AllocError> {
     let mut list = Vec::new(heap);
     cases::of_one_row(heap, &mut list)?;
-    certificates::of_one_coordinate(heap, &mut list)?;
-    certificates::of_two_coordinates(heap, &mut list)?;
-    certificates::of_four_coordinates(heap, &mut list)?;
     edges::of_boxes(heap, &mut list)?;
     edges::of_rows(heap, &mut list)?;
     edges::of_limits(heap, &mut list)?;
     edges::of_states(heap, &mut list)?;
     edges::of_narrowers(heap, &mut list)?;
     edges::of_runs(heap, &mut list)?;
-    certificate_edges::of_weights(heap, &mut list)?;
-    certificate_edges::of_lists(heap, &mut list)?;
-    certificate_edges::of_entries(heap, &mut list)?;
-    certificate_edges::of_ends(heap, &mut list)?;
-    certificate_edges::of_orders(heap, &mut list)?;
-    certificate_edges::of_states(heap, &mut list)?;
-    certificate_edges::of_marks(heap, &mut list)?;
-    certificate_edges::of_certificates(heap, &mut list)?;
     Ok(list)
 }
 

@@ -1,5 +1,4 @@
 //! What a call came to, in words that can be compared.
-use certificate::certificate::Certificate;
 use model::span::Span;
 use narrower::answer::Answer;
 use narrower::faults::{NarrowFault, Place, PlacementFault};
@@ -56,22 +55,6 @@ pub fn answered(
             let word = word(answer);
             let spans = written(heap, spans)?;
             format!(in heap; "{word}{spans}")
-        }
-        Err(fault) => refused(heap, fault),
-    }
-}
-
-/// A check's answer with the marks of the certificate, as `checked 2 marks`, or its refusal.
-pub fn checked(
-    heap: Global,
-    res: Result<(), PlacementFault>,
-    certificate: &Certificate,
-) -> Result<String, AllocError> {
-    match res {
-        Ok(()) => {
-            let marks = certificate.marked();
-            let noun = if marks == 1 { "mark" } else { "marks" };
-            format!(in heap; "checked {marks} {noun}")
         }
         Err(fault) => refused(heap, fault),
     }

@@ -10,8 +10,8 @@ pub loop-i-init : goal.loop-i-init
 loop-i-init c = (c.requires.ready, c.requires.total, refl)
 
 -- the box so far is ready for the next cut
-pub narrow-at-requires : goal.narrow-at-requires
-narrow-at-requires c = record { ready = c.loop-i.invariant.0; i-within = c.loop-i-test.true; total = c.loop-i.invariant.1 }
+pub narrow_at-requires : goal.narrow_at-requires
+narrow_at-requires c = record { ready = c.loop-i.invariant.0; i_within = c.loop-i-test.true; total = c.loop-i.invariant.1 }
 
 -- where nothing is left of one coordinate, nothing is left of all
 pub returns-in-None : goal.returns-in-None

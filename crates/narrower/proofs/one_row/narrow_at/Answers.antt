@@ -9,14 +9,14 @@ use Rattle.narrower.proofs.one_row.narrow_at.Goals as goal
 use Rattle.narrower.proofs.one_row.narrow_at.Goals.{After-new}
 
 -- without a quotient the box stays, and its sum
-pub returns-in-default : goal.returns-in-default
-returns-in-default c = (cut_stays (drafted c.args.row.now) c.args.spans.now c.args.i _ c.row-quotient.ensures c.in-default.is, c.requires.total)
+pub returns-in_default : goal.returns-in_default
+returns-in_default c = (cut_stays (drafted c.args.row.now) c.args.spans.now c.args.i _ c.row_quotient.ensures c.in_default.is, c.requires.total)
 
 -- where the span and the quotient share nothing, nothing is left
-pub returns-in-default-meeting : goal.returns-in-default-meeting
-returns-in-default-meeting c =
-    cut_none (drafted c.args.row.now) c.args.spans.now c.args.i _ c.row-quotient.ensures c.in-Some.quotient _ _
-    c.in-Some.is c.ends.ensures c.meeting.ensures.value c.in-default-meeting.is
+pub returns-in_default-meeting : goal.returns-in_default-meeting
+returns-in_default-meeting c =
+    cut_none (drafted c.args.row.now) c.args.spans.now c.args.i _ c.row_quotient.ensures c.in-Some.quotient _ _
+    c.in-Some.is c.ends.ensures c.meeting.ensures.value c.in_default-meeting.is
 
 -- the box with what they share is what the definition gives
 cut : (c : After-new) → narrow_at (drafted c.args.row.now) c.args.i c.args.spans.now ≡ Some (set c.args.spans.now c.args.i c.new.result)
@@ -24,14 +24,14 @@ cut c =
     let f : SFits w64 c.in-Some-meeting.low = search rules in
     let g : SFits w64 c.in-Some-meeting.high = search rules in
     let s : c.new.result ≡ span c.in-Some-meeting.low c.in-Some-meeting.high = simp to_z-of_z at c.new.ensures in
-    cut_some (drafted c.args.row.now) c.args.spans.now c.args.i _ c.row-quotient.ensures c.in-Some.quotient _ _
+    cut_some (drafted c.args.row.now) c.args.spans.now c.args.i _ c.row_quotient.ensures c.in-Some.quotient _ _
     c.in-Some.is c.ends.ensures c.meeting.ensures.value _ _ _ c.in-Some-meeting.is s
 
 -- so it is ready
-pub terms-with-requires : goal.terms-with-requires
-terms-with-requires c = record {
-  ready = ready_after c.requires.ready c.args.i c.requires.i-within (cut (goal.at.terms-with-requires c).After-new);
-  i-within = c.requires.i-within;
+pub terms_with-requires : goal.terms_with-requires
+terms_with-requires c = record {
+  ready = ready_after c.requires.ready c.args.i c.requires.i_within (cut (goal.at.terms_with-requires c).After-new);
+  i_within = c.requires.i_within;
 }
 
 -- and its sum is the rest and the new terms with the coordinate
@@ -39,6 +39,6 @@ pub returns : goal.returns
 returns c =
     let e = cut (goal.at.returns c).After-new in (
       e,
-      total-after (drafted c.args.row.now) c.args.spans.now c.args.i c.new.result (ready_after c.requires.ready c.args.i c.requires.i-within e) c.requires.i-within _ _ _
-          c.sum-range.ensures.value c.row-rest-rest.ensures c.terms-with.ensures,
+      total-after (drafted c.args.row.now) c.args.spans.now c.args.i c.new.result (ready_after c.requires.ready c.args.i c.requires.i_within e) c.requires.i_within _ _ _
+          c.sum_range.ensures.value c.row_rest-rest.ensures c.terms_with.ensures,
     )

@@ -4,5 +4,5 @@ use Rattle.narrower.proofs.one_row.row_quotient.Goals as goal
 
 pub returns : goal.returns
 returns c =
-    quotient_is c.requires.ready c.args.i c.requires.i-within _ _ _ _ _
-    c.quotient-range.ensures.value c.difference-range-left.ensures.value c.side.ensures c.requires.rest c.row-factor.ensures
+    quotient_is c.requires.ready c.args.i c.requires.i_within _ _ _ _ _
+    c.quotient_range.ensures.value c.difference_range-left.ensures.value c.side.ensures c.requires.rest c.row_factor.ensures

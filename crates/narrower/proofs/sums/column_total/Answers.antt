@@ -12,7 +12,7 @@ loop-i-init c = refl
 pub loop-i-preserved : goal.loop-i-preserved
 loop-i-preserved c =
     sum_step _ _ _ c.loop-i.i c.args.j (λ i. pair_term (drafted c.args.row.now) c.args.spans.now i c.args.j) term_size
-    c.sum-range-sum.ensures.value c.loop-i.invariant c.pair-term.ensures c.loop-i-test.true (omega arith) (λ i k. pair_term-size c.requires.ready i c.args.j k c.requires.j-within) (omega arith)
+    c.sum_range-sum.ensures.value c.loop-i.invariant c.pair_term.ensures c.loop-i-test.true (omega arith) (λ i k. pair_term-size c.requires.ready i c.args.j k c.requires.j_within) (omega arith)
 
 pub returns : goal.returns
 returns c = sum_all _ c.loop-i.i c.args.j (λ i. pair_term (drafted c.args.row.now) c.args.spans.now i c.args.j) c.loop-i.invariant (omega arith) c.loop-i-test.false

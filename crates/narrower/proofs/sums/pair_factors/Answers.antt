@@ -15,7 +15,7 @@ loop-j-init c = refl
 pub loop-j-preserved : goal.loop-j-preserved
 loop-j-preserved c =
     sum_step _ _ _ c.loop-j.j c.args.row.now.size (but (just (pos 0)) c.args.i (λ k. times (pair_of (drafted c.args.row.now) c.args.i k) (at c.args.spans.now k))) slope_size
-    c.sum-range-sum.ensures.value c.loop-j.invariant c.factor-of-two.ensures c.loop-j-test.true (omega arith) (λ j l. but_size slope_size c.args.i j (λ k. times (pair_of (drafted c.args.row.now) c.args.i k) (at c.args.spans.now k)) (λ n. factor_two_size c.requires.ready c.args.i j n c.requires.i-within l)) (omega arith)
+    c.sum_range-sum.ensures.value c.loop-j.invariant c.factor_of_two.ensures c.loop-j-test.true (omega arith) (λ j l. but_size slope_size c.args.i j (λ k. times (pair_of (drafted c.args.row.now) c.args.i k) (at c.args.spans.now k)) (λ n. factor_two_size c.requires.ready c.args.i j n c.requires.i_within l)) (omega arith)
 
 pub returns : goal.returns
 returns c = sum_all _ c.loop-j.j c.args.row.now.size (but (just (pos 0)) c.args.i (λ k. times (pair_of (drafted c.args.row.now) c.args.i k) (at c.args.spans.now k))) c.loop-j.invariant (omega arith) c.loop-j-test.false

@@ -14,7 +14,7 @@ loop-j-init c = refl
 pub loop-j-preserved : goal.loop-j-preserved
 loop-j-preserved c =
     sum_step _ _ _ c.loop-j.j c.args.row.now.size (but (just (pos 0)) c.args.i (ordered (pair_term (drafted c.args.row.now) c.args.spans.now) c.args.i)) term_size
-    c.sum-range-sum.ensures.value c.loop-j.invariant c.term-of-two.ensures c.loop-j-test.true (omega arith) (λ j l. but_size term_size c.args.i j (ordered (pair_term (drafted c.args.row.now) c.args.spans.now) c.args.i) (λ n. two_size c.requires.ready c.args.i j n c.requires.i-within l)) (omega arith)
+    c.sum_range-sum.ensures.value c.loop-j.invariant c.term_of_two.ensures c.loop-j-test.true (omega arith) (λ j l. but_size term_size c.args.i j (ordered (pair_term (drafted c.args.row.now) c.args.spans.now) c.args.i) (λ n. two_size c.requires.ready c.args.i j n c.requires.i_within l)) (omega arith)
 
 pub returns : goal.returns
 returns c = sum_all _ c.loop-j.j c.args.row.now.size (but (just (pos 0)) c.args.i (ordered (pair_term (drafted c.args.row.now) c.args.spans.now) c.args.i)) c.loop-j.invariant (omega arith) c.loop-j-test.false

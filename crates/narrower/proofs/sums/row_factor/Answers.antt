@@ -16,10 +16,10 @@ returns c =
     let r = drafted c.args.row.now in
     let i = c.args.i in
     let f : ℕ → Range = λ k. times (pair_of r i k) (at c.args.spans.now k) in
-    let l = c.requires.i-within in
+    let l = c.requires.i_within in
     let q = c.requires.ready in
-    let square = product_is _ _ _ _ _ slope_size c.product-range-square.ensures.value c.ends.ensures c.ends-2.ensures (times-within _ _ square_limit box_limit (within_size (q.limits.squares_in i l)) (box_size q i l)) (omega arith) in
+    let square = product_is _ _ _ _ _ slope_size c.product_range-square.ensures.value c.ends.ensures c.ends-2.ensures (times-within _ _ square_limit box_limit (within_size (q.limits.squares_in i l)) (box_size q i l)) (omega arith) in
     three_is _ _ _ _ _ _ (sum_r c.args.row.now.size (but (just (pos 0)) i f)) _ (most_coordinates * slope_size) single_limit factor_size
-    c.sum-range-2.ensures.value c.sum-range.ensures.value square c.pair-factors-pairs.ensures c.ends-3.ensures
+    c.sum_range-2.ensures.value c.sum_range.ensures.value square c.pair_factors-pairs.ensures c.ends-3.ensures
     (few_size _ slope_size (but (just (pos 0)) i f) q.limits.few (λ j k. but_size slope_size i j f (λ n. factor_two_size q i j n l k))) (within_size (q.limits.singles_in i l)) (omega arith)
     (factor_size_lem q i l) (omega arith)

@@ -3,4 +3,4 @@ use Rattle.narrower.proofs.CutSteps.{rest_is}
 use Rattle.narrower.proofs.sums.row_rest.Goals as goal
 
 pub returns : goal.returns
-returns c = rest_is c.requires.ready c.args.i c.requires.i-within _ _ _ c.remaining-range.ensures c.requires.total c.terms-with.ensures
+returns c = rest_is c.requires.ready c.args.i c.requires.i_within _ _ _ c.remaining_range.ensures c.requires.total c.terms_with.ensures

@@ -8,6 +8,6 @@ use Rattle.narrower.proofs.sums.row_total.Goals as goal
 pub returns : goal.returns
 returns c =
     three_is _ _ _ _ _ _ _ _ (most_coordinates * (most_coordinates * term_size)) (most_coordinates * single_size) sum_size
-    c.sum-range-2.ensures.value c.sum-range.ensures.value c.squares-total-squares.ensures c.pairs-total-pairs.ensures c.singles-total-singles.ensures
+    c.sum_range-2.ensures.value c.sum_range.ensures.value c.squares_total-squares.ensures c.pairs_total-pairs.ensures c.singles_total-singles.ensures
     (few_pairs_size _ term_size _ c.requires.limits.few (pair_term-size c.requires)) (few_size _ single_size _ c.requires.limits.few (single_term-size c.requires)) (omega arith)
     (total_size c.requires) (omega arith)

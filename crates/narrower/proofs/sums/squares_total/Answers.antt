@@ -12,7 +12,7 @@ loop-i-init c = refl
 pub loop-i-preserved : goal.loop-i-preserved
 loop-i-preserved c =
     sum_step _ _ _ c.loop-i.i c.args.row.now.size (square_term (drafted c.args.row.now) c.args.spans.now) term_size
-    c.sum-range-sum.ensures.value c.loop-i.invariant c.square-term.ensures c.loop-i-test.true (omega arith) (square_term-size c.requires) (omega arith)
+    c.sum_range-sum.ensures.value c.loop-i.invariant c.square_term.ensures c.loop-i-test.true (omega arith) (square_term-size c.requires) (omega arith)
 
 pub returns : goal.returns
 returns c = sum_all _ c.loop-i.i c.args.row.now.size (square_term (drafted c.args.row.now) c.args.spans.now) c.loop-i.invariant (omega arith) c.loop-i-test.false

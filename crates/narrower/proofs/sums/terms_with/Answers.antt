@@ -13,9 +13,9 @@ pub returns : goal.returns
 returns c =
     let i = c.args.i in
     let f = ordered (pair_term (drafted c.args.row.now) c.args.spans.now) i in
-    let l = c.requires.i-within in
+    let l = c.requires.i_within in
     let q = c.requires.ready in
     three_is _ _ _ _ _ _ (sum_r c.args.row.now.size (but (just (pos 0)) i f)) _ (most_coordinates * term_size) single_size sum_size
-    c.sum-range-2.ensures.value c.sum-range.ensures.value c.square-term-square.ensures c.pair-terms-with-pairs.ensures c.single-term.ensures
+    c.sum_range-2.ensures.value c.sum_range.ensures.value c.square_term-square.ensures c.pair_terms_with-pairs.ensures c.single_term.ensures
     (few_size _ term_size (but (just (pos 0)) i f) q.limits.few (λ j k. but_size term_size i j f (λ n. two_size q i j n l k))) (single_term-size q i l) (omega arith)
     (with_size q i l) (omega arith)

@@ -7,6 +7,6 @@ use Rattle.narrower.proofs.terms.factor_of_two.Goals as goal
 
 pub returns-else-i-j : goal.returns-else-i-j
 returns-else-i-j c =
-    product_is _ _ _ _ _ slope_size c.product-range.ensures.value c.pair-coefficient.ensures c.ends.ensures
-    (factor_two_size c.requires.ready c.args.i c.args.j c.if-i-j.false c.requires.i-within c.requires.j-within) (omega arith)
+    product_is _ _ _ _ _ slope_size c.product_range.ensures.value c.pair_coefficient.ensures c.ends.ensures
+    (factor_two_size c.requires.ready c.args.i c.args.j c.if-i-j.false c.requires.i_within c.requires.j_within) (omega arith)
     ∙ sym (cond-false _ _ _ (ne_eqb c.args.i c.args.j c.if-i-j.false))

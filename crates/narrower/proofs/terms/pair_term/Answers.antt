@@ -9,5 +9,5 @@ use Rattle.narrower.proofs.terms.pair_term.Goals as goal
 pub returns : goal.returns
 returns c =
     let l : c.args.i < c.args.row.now.size = omega arith in
-    let s = product_is _ _ _ _ _ (box_limit * box_limit) c.product-range-product.ensures.value c.ends.ensures c.ends-2.ensures (times-within _ _ box_limit box_limit (box_size c.requires.ready c.args.i l) (box_size c.requires.ready c.args.j c.requires.j-within)) (omega arith) in
-    product_is _ _ _ _ _ term_size c.product-range.ensures.value c.ends-3.ensures s (pair_term-size c.requires.ready c.args.i c.args.j c.requires.i-within c.requires.j-within) (omega arith)
+    let s = product_is _ _ _ _ _ (box_limit * box_limit) c.product_range-product.ensures.value c.ends.ensures c.ends-2.ensures (times-within _ _ box_limit box_limit (box_size c.requires.ready c.args.i l) (box_size c.requires.ready c.args.j c.requires.j_within)) (omega arith) in
+    product_is _ _ _ _ _ term_size c.product_range.ensures.value c.ends-3.ensures s (pair_term-size c.requires.ready c.args.i c.args.j c.requires.i_within c.requires.j_within) (omega arith)

@@ -8,5 +8,5 @@ use Rattle.narrower.proofs.terms.square_term.Goals as goal
 
 pub returns : goal.returns
 returns c =
-    let s = square_is _ _ _ (box_limit * box_limit) c.square-range.ensures.value c.ends-2.ensures (square-within _ box_limit (box_size c.requires.ready c.args.i c.requires.i-within)) (omega arith) in
-    product_is _ _ _ _ _ term_size c.product-range.ensures.value c.ends.ensures s (square_term-size c.requires.ready c.args.i c.requires.i-within) (omega arith)
+    let s = square_is _ _ _ (box_limit * box_limit) c.square_range.ensures.value c.ends-2.ensures (square-within _ box_limit (box_size c.requires.ready c.args.i c.requires.i_within)) (omega arith) in
+    product_is _ _ _ _ _ term_size c.product_range.ensures.value c.ends.ensures s (square_term-size c.requires.ready c.args.i c.requires.i_within) (omega arith)

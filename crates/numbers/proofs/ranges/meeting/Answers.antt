@@ -23,8 +23,8 @@ pub returns-then-low-high : goal.returns-then-low-high
 returns-then-low-high c =
     let a = c.args.a in
     let b = c.args.b in
-    let fl : SFits w64 c.max-low.result = record { sfits = c.max-low.type-inv } in
-    let fh : SFits w64 c.min-high.result = record { sfits = c.min-high.type-inv } in
+    let fl : SFits w64 c.max-low.result = record { sfits = c.max-low.type_inv } in
+    let fh : SFits w64 c.min-high.result = record { sfits = c.min-high.type_inv } in
     let h = ends (goal.at.returns-then-low-high c).After-min-high in
     let t : le_z c.max-low.result c.min-high.result ≡ true = simp to_z-of_z at c.if-low-high.true in
     let e : ◌≡◌ {A = Range} (c.max-low.result, c.min-high.result) (int_max a.0 b.0, int_min a.1 b.1) = same_ends h.0 h.1 in
@@ -34,8 +34,8 @@ pub returns-else-low-high : goal.returns-else-low-high
 returns-else-low-high c =
     let a = c.args.a in
     let b = c.args.b in
-    let fl : SFits w64 c.max-low.result = record { sfits = c.max-low.type-inv } in
-    let fh : SFits w64 c.min-high.result = record { sfits = c.min-high.type-inv } in
+    let fl : SFits w64 c.max-low.result = record { sfits = c.max-low.type_inv } in
+    let fh : SFits w64 c.min-high.result = record { sfits = c.min-high.type_inv } in
     let h = ends (goal.at.returns-else-low-high c).After-min-high in
     let t : le_z c.max-low.result c.min-high.result ≡ false = simp to_z-of_z at c.if-low-high.false in
     record { value = sym (cond-false _ (Some (int_max a.0 b.0, int_min a.1 b.1)) _ (sym (ap₂ le_z h.0 h.1) ∙ t)); law = shared_holds_what_both_hold }

@@ -8,15 +8,15 @@ use Rattle.numbers.proofs.Characters.{quotient_is_enclosed}
 use Rattle.numbers.proofs.Held.{same_ends, least_held, most_held}
 use Rattle.numbers.proofs.ranges.quotient_range.Goals as goal
 
-pub returns-then-not-is-one-sided : goal.returns-then-not-is-one-sided
-returns-then-not-is-one-sided c =
+pub returns-then-not-is_one_sided : goal.returns-then-not-is_one_sided
+returns-then-not-is_one_sided c =
     let a = c.args.a in
     let b = c.args.b in
     let g₀ : SFits w64 b.0 = search rules in
     let g₁ : SFits w64 b.1 = search rules in
-    let o : c.is-one-sided.result ≡ off_zero b = simp to_z-of_z at c.is-one-sided.ensures in
+    let o : c.is_one_sided.result ≡ off_zero b = simp to_z-of_z at c.is_one_sided.ensures in
     record {
-      value = sym (cond-false (off_zero b) (Some (held_range (over a b))) None (sym o ∙ c.if-not-is-one-sided.true));
+      value = sym (cond-false (off_zero b) (Some (held_range (over a b))) None (sym o ∙ c.if-not-is_one_sided.true));
       law = quotient_is_enclosed;
     }
 
@@ -25,10 +25,10 @@ unfolding over_low over_high
 returns c =
     let a = c.args.a in
     let b = c.args.b in
-    let p = c.both-roundings-p.result in
-    let q = c.both-roundings-q.result in
-    let s = c.both-roundings-s.result in
-    let t = c.both-roundings-t.result in
+    let p = c.both_roundings-p.result in
+    let q = c.both_roundings-q.result in
+    let s = c.both_roundings-s.result in
+    let t = c.both_roundings-t.result in
     let f₀ : SFits w64 a.0 = search rules in
     let f₁ : SFits w64 a.1 = search rules in
     let g₀ : SFits w64 b.0 = search rules in
@@ -41,20 +41,20 @@ returns c =
     let s₁ : SFits w64 s.1 = search rules in
     let t₀ : SFits w64 t.0 = search rules in
     let t₁ : SFits w64 t.1 = search rules in
-    let fl : SFits w64 c.least-of-four.result = record { sfits = c.least-of-four.type-inv } in
-    let fg : SFits w64 c.greatest-of-four.result = record { sfits = c.greatest-of-four.type-inv } in
-    let o : c.is-one-sided.result ≡ off_zero b = simp to_z-of_z at c.is-one-sided.ensures in
-    let hp : p ≡ held_range (down a.0 b.0, up a.0 b.0) = simp to_z-of_z at c.both-roundings-p.ensures in
-    let hq : q ≡ held_range (down a.0 b.1, up a.0 b.1) = simp to_z-of_z at c.both-roundings-q.ensures in
-    let hs : s ≡ held_range (down a.1 b.0, up a.1 b.0) = simp to_z-of_z at c.both-roundings-s.ensures in
-    let ht : t ≡ held_range (down a.1 b.1, up a.1 b.1) = simp to_z-of_z at c.both-roundings-t.ensures in
-    let l : c.least-of-four.result ≡ least4 p.0 q.0 s.0 t.0 = simp to_z-of_z at c.least-of-four.ensures in
-    let g : c.greatest-of-four.result ≡ most4 p.1 q.1 s.1 t.1 = simp to_z-of_z at c.greatest-of-four.ensures in
+    let fl : SFits w64 c.least_of_four.result = record { sfits = c.least_of_four.type_inv } in
+    let fg : SFits w64 c.greatest_of_four.result = record { sfits = c.greatest_of_four.type_inv } in
+    let o : c.is_one_sided.result ≡ off_zero b = simp to_z-of_z at c.is_one_sided.ensures in
+    let hp : p ≡ held_range (down a.0 b.0, up a.0 b.0) = simp to_z-of_z at c.both_roundings-p.ensures in
+    let hq : q ≡ held_range (down a.0 b.1, up a.0 b.1) = simp to_z-of_z at c.both_roundings-q.ensures in
+    let hs : s ≡ held_range (down a.1 b.0, up a.1 b.0) = simp to_z-of_z at c.both_roundings-s.ensures in
+    let ht : t ≡ held_range (down a.1 b.1, up a.1 b.1) = simp to_z-of_z at c.both_roundings-t.ensures in
+    let l : c.least_of_four.result ≡ least4 p.0 q.0 s.0 t.0 = simp to_z-of_z at c.least_of_four.ensures in
+    let g : c.greatest_of_four.result ≡ most4 p.1 q.1 s.1 t.1 = simp to_z-of_z at c.greatest_of_four.ensures in
     let low : Range → ℤ = λ r. r.0 in
     let high : Range → ℤ = λ r. r.1 in
-    let e : ◌≡◌ {A = Range} (c.least-of-four.result, c.greatest-of-four.result) (held_range (over a b)) =
+    let e : ◌≡◌ {A = Range} (c.least_of_four.result, c.greatest_of_four.result) (held_range (over a b)) =
     same_ends (least_held _ _ _ _ _ _ _ _ _ l (ap low hp) (ap low hq) (ap low hs) (ap low ht)) (most_held _ _ _ _ _ _ _ _ _ g (ap high hp) (ap high hq) (ap high hs) (ap high ht)) in
     record {
-      value = simp to_z-of_z (ap Some e ∙ sym (cond-true (off_zero b) (Some (held_range (over a b))) None (sym o ∙ c.if-not-is-one-sided.false)));
+      value = simp to_z-of_z (ap Some e ∙ sym (cond-true (off_zero b) (Some (held_range (over a b))) None (sym o ∙ c.if-not-is_one_sided.false)));
       law = quotient_is_enclosed;
     }

@@ -1,6 +1,6 @@
 -- One bit after the other, from the highest down.
-use Rattle.std.proofs.Common.{◌≡◌, ℕ, ◌+◌, ◌-◌, ◌*◌, ◌%◌, ◌^◌, ◌<◌, ◌≤◌, min, sym, refl, ap, ◌∙◌, mod-eq_of_lt, arith, pow_mono}
-use Rattle.numbers.specs.Roots.{root_limit, root_up, root_bits}
+use Rattle.std.proofs.Common.{◌≡◌, ℕ, ◌+◌, ◌-◌, ◌*◌, ◌%◌, ◌^◌, ◌<◌, ◌≤◌, sym, ap, ◌∙◌, mod-eq_of_lt, arith, pow_mono}
+use Rattle.numbers.specs.Roots.{root_up}
 use Rattle.numbers.proofs.SquareRoots.{root_is_least, power_step, bit_set, bit_kept, no_bits, root_of_none, root_of_some}
 use Rattle.numbers.proofs.roots.root_up.Goals as goal
 

@@ -1,5 +1,5 @@
 -- The bits that are left to try lead to the root.
-use Rattle.std.proofs.Common.{◌≡◌, ◌+◌, ◌*◌, ◌^◌, ◌<◌}
+use Rattle.std.proofs.Common.{◌≡◌, ◌+◌, ◌^◌, ◌<◌}
 use Rattle.numbers.specs.Roots.{root_bits}
 use Rattle.numbers.proofs.roots.root_up.Given as goal
 

@@ -19,7 +19,7 @@ returns-else-b-eq0 c =
     let b = c.args.b in
     let fa = c.ranges.a in
     let fb = c.ranges.b in
-    let fr : SFits w64 c.quotient-up.result = record { sfits = c.quotient-up.type-inv } in
-    let e : c.quotient-up.result ≡ held (up a b) = simp to_z-of_z at c.quotient-up.ensures in
+    let fr : SFits w64 c.quotient_up.result = record { sfits = c.quotient_up.type_inv } in
+    let e : c.quotient_up.result ≡ held (up a b) = simp to_z-of_z at c.quotient_up.ensures in
     let z : is_zero b ≡ false = grind (arith, ints) in
     record { value = simp to_z-of_z (ap Some e ∙ sym (cond-false (is_zero b) None (Some (held (up a b))) z)); law = up_is_least_not_below }

@@ -19,7 +19,7 @@ returns-else-b-eq0 c =
     let b = c.args.b in
     let fa = c.ranges.a in
     let fb = c.ranges.b in
-    let fr : SFits w64 c.quotient-down.result = record { sfits = c.quotient-down.type-inv } in
-    let e : c.quotient-down.result ≡ held (down a b) = simp to_z-of_z at c.quotient-down.ensures in
+    let fr : SFits w64 c.quotient_down.result = record { sfits = c.quotient_down.type_inv } in
+    let e : c.quotient_down.result ≡ held (down a b) = simp to_z-of_z at c.quotient_down.ensures in
     let z : is_zero b ≡ false = grind (arith, ints) in
     record { value = simp to_z-of_z (ap Some e ∙ sym (cond-false (is_zero b) None (Some (held (down a b))) z)); law = down_is_greatest_not_above }

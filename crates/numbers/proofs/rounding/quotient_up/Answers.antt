@@ -10,18 +10,18 @@ use Rattle.numbers.proofs.Held.{held_fits}
 use Rattle.numbers.proofs.rounding.quotient_up.Goals as goal
 
 -- the quotient is one less than the one rounded up
-past : (c : goal.Then-is-one-sided) → up c.args.a c.args.b ≡ quot_z c.args.a c.args.b +ℤ pos 1
+past : (c : goal.Then-is_one_sided) → up c.args.a c.args.b ≡ quot_z c.args.a c.args.b +ℤ pos 1
 past c =
     let a = c.args.a in
     let b = c.args.b in
     let fa = c.ranges.a in
     let fb = c.ranges.b in
     let fr = rem_fits a b fa in
-    let o : c.is-one-sided.result ≡ off_zero (rem_z a b, b) = simp to_z-of_z at c.is-one-sided.ensures in
-    up_past a b c.requires (sym o ∙ c.if-is-one-sided.true)
+    let o : c.is_one_sided.result ≡ off_zero (rem_z a b, b) = simp to_z-of_z at c.is_one_sided.ensures in
+    up_past a b c.requires (sym o ∙ c.if-is_one_sided.true)
 
 -- so it has room for 1 more
-more_fits : (c : goal.Then-is-one-sided) → SFits w64 (quot_z c.args.a c.args.b) × SFits w64 (quot_z c.args.a c.args.b +ℤ pos 1)
+more_fits : (c : goal.Then-is_one_sided) → SFits w64 (quot_z c.args.a c.args.b) × SFits w64 (quot_z c.args.a c.args.b +ℤ pos 1)
 more_fits c =
     let a = c.args.a in
     let b = c.args.b in
@@ -32,15 +32,15 @@ more_fits c =
     let fq = quot_fits a b c.requires fa (λ e. omega (arith, ints)) in
     (fq, omega (arith, ints))
 
-pub overflow-add-result : goal.overflow-add-result
-overflow-add-result c =
+pub overflow_add-result : goal.overflow_add-result
+overflow_add-result c =
     let fa = c.ranges.a in
     let fb = c.ranges.b in
     let fq = (more_fits c).0 in
     simp to_z-of_z (more_fits c).1
 
-pub returns-then-is-one-sided : goal.returns-then-is-one-sided
-returns-then-is-one-sided c =
+pub returns-then-is_one_sided : goal.returns-then-is_one_sided
+returns-then-is_one_sided c =
     let a = c.args.a in
     let b = c.args.b in
     let fa = c.ranges.a in
@@ -49,14 +49,14 @@ returns-then-is-one-sided c =
     let fm = (more_fits c).1 in
     simp to_z-of_z (sym (rw (past c) (held_fits (quot_z a b +ℤ pos 1) fm)))
 
-pub returns-else-is-one-sided : goal.returns-else-is-one-sided
-returns-else-is-one-sided c =
+pub returns-else-is_one_sided : goal.returns-else-is_one_sided
+returns-else-is_one_sided c =
     let a = c.args.a in
     let b = c.args.b in
     let fa = c.ranges.a in
     let fb = c.ranges.b in
     let fr = rem_fits a b fa in
     let fq = quot_fits a b c.requires fa (λ e. omega (arith, ints)) in
-    let o : c.is-one-sided.result ≡ off_zero (rem_z a b, b) = simp to_z-of_z at c.is-one-sided.ensures in
-    let d = up_cut a b c.requires (sym o ∙ c.if-is-one-sided.false) in
+    let o : c.is_one_sided.result ≡ off_zero (rem_z a b, b) = simp to_z-of_z at c.is_one_sided.ensures in
+    let d = up_cut a b c.requires (sym o ∙ c.if-is_one_sided.false) in
     simp to_z-of_z (sym (rw d (held_fits (quot_z a b) fq)))

@@ -6,13 +6,13 @@ use Rattle.placement.proofs.Making.{size_small, copy_sound, answer_made, state_m
 use Rattle.placement.proofs.placement.Placement.make.Goals as goal
 
 -- the size, the copy of the spans and the rows are held
-pub invariant-of-self : goal.invariant-of-self
-invariant-of-self c =
+pub invariant_of-self : goal.invariant_of-self
+invariant_of-self c =
     let n = c.args.size in
     let X = c.args.spans.now in
     let ds = vec_items c.args.rows in
     let ok : Ok tt ≡ refused_by (contents_refusal n X ds) = search rules in
-    (size_small n X ds ok, (copy_sound n X ds ok _ c.copy-of-self.ensures, tt))
+    record { small = size_small n X ds ok; held = copy_sound n X ds ok _ c.copy_of-self.ensures }
 
 -- what was handed over is the placement now
 pub returns : goal.returns
@@ -24,5 +24,5 @@ returns c =
     let ok : Ok tt ≡ refused_by (contents_refusal n X ds) = search rules in
     record {
       answer = answer_made n X ds ok s c.in-Unmade.is;
-      after = state_made n X ds ok s c.in-Unmade.is _ c.copy-of-self.ensures;
+      after = state_made n X ds ok s c.in-Unmade.is _ c.copy_of-self.ensures;
     }

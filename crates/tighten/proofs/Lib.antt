@@ -1,2 +1,0 @@
--- The lemmas on checks.
-mod Checking

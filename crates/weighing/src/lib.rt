@@ -1,8 +1,0 @@
-//! One row from many: a weight for each row, and the weighted sum of all, which follows from the rows whose weight is not 0.
-
-pub mod coefficient;
-pub mod marks;
-mod refusals;
-mod tables;
-mod totals;
-pub mod weights;
