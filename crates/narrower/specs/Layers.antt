@@ -1,5 +1,5 @@
 -- Layers: narrowers that are built from other narrowers. Size 0, of which there is no box, stands for what does not fit.
-use Rattle.std.specs.Prelude.{ℕ, zero, suc, ◌+◌, ◌-◌, ◌*◌, min, Bool, cond, ◌&&◌, List, ◌++◌, take, drop, Some, Option, ◌==◌, nat_le, nat_lt}
+use Rattle.std.specs.Prelude.{ℕ, zero, suc, ◌+◌, ◌-◌, ◌*◌, min, Bool, cond, ◌&&◌, List, ◌++◌, take, drop, Some, ◌==◌, nat_le, nat_lt}
 use Rattle.model.specs.declared.span.Span.{Span}
 use Rattle.narrower.specs.Maps.{Map, then}
 use Rattle.narrower.specs.Narrowings.{Narrowing}

@@ -1,5 +1,6 @@
 //! Placements. A *placement* is a group of up to three stars: up to nine coordinates, up to sixteen rows and one box, which narrowers
 //! shrink until they find that no place fits, or nothing more to cut.
+#![tactic(auto)]
 
 mod calls;
 pub mod placement;

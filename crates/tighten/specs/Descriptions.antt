@@ -1,5 +1,5 @@
 -- What a line that describes the problem makes of it.
-use Rattle.std.specs.Prelude.{◌≡◌, ℕ, ◌-◌, min, max, cond, ◌&&◌, ◌⊎◌, List, [], ◌∷◌, ◌++◌, length, set, ℤ, pos, negsuc, Some, None, Ok, Err, Option, Result, ◌==◌, nat_le, nat_lt, slice_index_or, slice_set}
+use Rattle.std.specs.Prelude.{◌≡◌, ℕ, ◌-◌, min, max, cond, ◌&&◌, ◌⊎◌, [], ◌∷◌, ◌++◌, length, set, ℤ, pos, negsuc, Some, None, Ok, Err, Option, Result, ◌==◌, nat_le, nat_lt, slice_index_or, slice_set}
 use Rattle.model.specs.declared.span.Span.{Span}
 use Rattle.model.specs.declared.draft.RowDraft.{RowDraft}
 use Rattle.model.specs.Drafts.{blank}

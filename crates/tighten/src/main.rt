@@ -1,4 +1,6 @@
 //! A program that reads a problem and calls on it, and tells what each call came to.
+#![tactic(auto)]
+
 mod command;
 mod failure;
 mod problem;
@@ -14,6 +16,7 @@ mod wrong;
 use crate::failure::Failure;
 use crate::session::Session;
 use std::io::{BufRead, BufReader};
+use std::process::ExitCode;
 
 /// Reads the input to its end, telling what each call came to and then what the run came to.
 fn run(rt: &HostRuntime) -> Result<(), Failure> {
@@ -36,10 +39,12 @@ fn run(rt: &HostRuntime) -> Result<(), Failure> {
     Ok(())
 }
 
-fn main(rt: HostRuntime) -> Result<(), Failure> {
-    let outcome = run(&rt);
-    if let Err(failure) = &outcome {
-        let _ = eprintln!(rt; "{failure}");
+fn main(rt: HostRuntime) -> ExitCode {
+    match run(&rt) {
+        Ok(()) => ExitCode::SUCCESS,
+        Err(failure) => {
+            let _ = eprintln!(rt; "{failure}");
+            ExitCode::FAILURE
+        }
     }
-    outcome
 }

@@ -145,8 +145,8 @@ impl Session {
         layers: Layers,
         base: N,
     ) -> Result<Reply, PlacementFault>
-        ensures answer { untold_answer result ≡ told (reply_by layers) (narrow_answer (layered layers (means base)) (state_of self.old.placement)) }
-        ensures after { state_of self.new.placement ≡ narrow_state (layered layers (means base)) (state_of self.old.placement) }
+        ensures answer { untold_answer result ≡ told (reply_by layers) (narrow_answer (layered layers (N.means base)) (state_of self.old.placement)) }
+        ensures after { state_of self.new.placement ≡ narrow_state (layered layers (N.means base)) (state_of self.old.placement) }
         ensures same { self.new.problem ≡ self.old.problem }
     {
         match layers {
@@ -160,8 +160,8 @@ impl Session {
 
     /// Narrows by a narrower.
     fn narrow_by<N: Narrower + Drop>(&mut self, mut by: N) -> Result<Reply, PlacementFault>
-        ensures answer { untold_answer result ≡ told reply.Narrowing (narrow_answer (means by) (state_of self.old.placement)) }
-        ensures after { state_of self.new.placement ≡ narrow_state (means by) (state_of self.old.placement) }
+        ensures answer { untold_answer result ≡ told reply.Narrowing (narrow_answer (N.means by) (state_of self.old.placement)) }
+        ensures after { state_of self.new.placement ≡ narrow_state (N.means by) (state_of self.old.placement) }
         ensures same { self.new.problem ≡ self.old.problem }
     {
         let answer = self.placement.narrow(&mut by)?;
@@ -174,8 +174,8 @@ impl Session {
         below: N,
         star: i64,
     ) -> Result<Reply, PlacementFault>
-        ensures answer { untold_answer result ≡ told reply.Narrowing (narrow_answer (star_of (ordinal_of star) (means below)) (state_of self.old.placement)) }
-        ensures after { state_of self.new.placement ≡ narrow_state (star_of (ordinal_of star) (means below)) (state_of self.old.placement) }
+        ensures answer { untold_answer result ≡ told reply.Narrowing (narrow_answer (star_of (ordinal_of star) (N.means below)) (state_of self.old.placement)) }
+        ensures after { state_of self.new.placement ≡ narrow_state (star_of (ordinal_of star) (N.means below)) (state_of self.old.placement) }
         ensures same { self.new.problem ≡ self.old.problem }
     {
         let place = ordinal(star);
@@ -189,8 +189,8 @@ impl Session {
         below: N,
         rounds: usize,
     ) -> Result<Reply, PlacementFault>
-        ensures answer { untold_answer result ≡ told (λ a. reply.Rounds a 0) (narrow_answer (rounds_of rounds (means below)) (state_of self.old.placement)) }
-        ensures after { state_of self.new.placement ≡ narrow_state (rounds_of rounds (means below)) (state_of self.old.placement) }
+        ensures answer { untold_answer result ≡ told (λ a. reply.Rounds a 0) (narrow_answer (rounds_of rounds (N.means below)) (state_of self.old.placement)) }
+        ensures after { state_of self.new.placement ≡ narrow_state (rounds_of rounds (N.means below)) (state_of self.old.placement) }
         ensures same { self.new.problem ≡ self.old.problem }
     {
         let mut by = Rounds::new(below, rounds);

@@ -1,4 +1,5 @@
 //! Runs the worked cases and the edges through the public calls, and prints what was expected beside what came.
+#![tactic(auto)]
 
 mod cases;
 mod edges;

@@ -3,8 +3,8 @@ use Rattle.std.proofs.Common.{inl, inr, rules}
 use Rattle.tighten.proofs.problem.Problem.start_row.Goals as goal
 
 -- there is no memory
-pub returns-in-err-push : goal.returns-in-err-push
-returns-in-err-push c = inr (search rules)
+pub returns-in_err-push : goal.returns-in_err-push
+returns-in_err-push c = inr (search rules)
 
 -- the row is the last
 pub returns : goal.returns
