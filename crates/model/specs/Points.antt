@@ -1,6 +1,6 @@
 -- What a row says of a point. A point gives each coordinate a fraction, all over one positive whole number.
 use Rattle.std.specs.Prelude.{ℕ, ◌*◌, ◌<◌, List, length, ℤ, pos, ◌+ℤ◌, ◌*ℤ◌, ◌≤ℤ◌, Some, None, Option}
-use Rattle.std.specs.List.{AllByRecursion as All}
+use Rattle.std.specs.List.{AllByRecursion}
 use Rattle.numbers.specs.Sums.{sum, pairs}
 use Rattle.numbers.specs.Ranges.{Between}
 use Rattle.model.specs.declared.span.Span.{Span}
@@ -54,7 +54,7 @@ pub record Meets (x : Point) (r : Row) : Type 0 where
 
 -- the point meets each of the rows, with coefficients of its own for each
 abbrev pub MeetsAll : Point → List Row → Type 0
-MeetsAll x rs = All (Meets x) rs
+MeetsAll x rs = AllByRecursion (Meets x) rs
 
 -- the row follows from the rows: every point that meets all of these meets it
 abbrev pub Follows : Row → List Row → Type 0

@@ -1,6 +1,6 @@
 -- Worked examples of the one-row rule: each is a computation.
 use Rattle.std.specs.Prelude.{◌≡◌, ℕ, List, [], ◌∷◌, ℤ, pos, neg_ℤ, Some, None, Option, slice_index_or}
-use Rattle.std.specs.List.{AllByRecursion as All}
+use Rattle.std.specs.List.{AllByRecursion}
 use Rattle.numbers.specs.Ranges.{just}
 use Rattle.model.specs.declared.span.Span.{Span}
 use Rattle.model.specs.Boxes.{span}
@@ -78,4 +78,4 @@ examples = square_stands ∷ circle_stands ∷ product_stands ∷ product_narrow
 
 -- the one-row rule gives what the table says
 abbrev pub ExamplesHold : Type 0
-ExamplesHold = All (λ e. one_row e.row e.box ≡ e.gives) examples
+ExamplesHold = AllByRecursion (λ e. one_row e.row e.box ≡ e.gives) examples
