@@ -63,3 +63,15 @@ module _ (n : ℕ) (S : List Span) (ds : List RowDraft) (h : sound n S ds ≡ tr
   sound_of_box Z b d =
       let same : bad_span (take n Z) ≡ bad_span (take n S) = unbad_of_box (take n Z) d ∙ sym (unbad_of_box (take n S) b) in
       ap (λ o. sound_by n o ds) same ∙ h
+
+  -- the size is from 1 to 9
+  pub size_of_sound : size_fits n ≡ true
+  size_of_sound = (and_parts (size_fits n) _ h).0
+
+  -- there are at most sixteen rows
+  pub few_of_sound : length ds ≤ most_rows
+  few_of_sound = let e = (and_parts (leb (length ds) most_rows) (missing (bad_row n ds)) after_spans).0 in grind (arith, nat_tests)
+
+  -- none of them is bad, as a test
+  pub unbad_of_sound : missing (bad_row n ds) ≡ true
+  unbad_of_sound = (and_parts (leb (length ds) most_rows) (missing (bad_row n ds)) after_spans).1

@@ -1,4 +1,14 @@
--- The lemmas on what a placement holds, on making it and on narrowing it.
+-- The lemmas on what a placement holds, on making it, narrowing it and checking by it, and on runs of calls.
 pub mod Boxing
 pub mod Making
 pub mod Answering
+pub mod Walking
+pub mod NewPlacements
+pub mod RunLaws
+pub mod OwnNarrowers
+pub mod WholeOrders
+pub mod AcceptedChecks
+pub mod RunPromises
+pub mod RunWitnesses
+mod CallLists
+pub mod Checking

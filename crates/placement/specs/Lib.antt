@@ -1,6 +1,11 @@
--- What a placement holds, and what making, narrowing and reading it answer and leave.
+-- What a placement holds, what making, narrowing, reading and checking it answer and leave, and what every run of calls keeps.
 pub mod Held
 pub mod States
 pub mod Makes
 pub mod Narrows
 pub mod Reads
+pub mod Checks
+pub mod Runs
+pub mod Promises
+pub mod Witnesses
+pub mod Calls

@@ -1,15 +1,21 @@
 //! The calls on a placement.
 
 ghost use Rattle.std.specs.Prelude.{◌≡◌, List, Ok, Err, MatchResult};
+ghost use Rattle.weighing.specs.Laws.{AggregatedRowFollows};
+ghost use Rattle.certificate.specs.Certificates.{told_of};
+ghost use Rattle.certificate.specs.Laws.{DominantWeightsPass};
 ghost use Rattle.placement.specs.States.{state_of, unmade, refused_by};
 ghost use Rattle.placement.specs.Makes.{contents_refusal, rows_refusal, make_answer, make_state};
 ghost use Rattle.placement.specs.Narrows.{narrow_answer, narrow_state, Keeps};
+ghost use Rattle.placement.specs.Checks.{check_answer, check_told};
 ghost use Rattle.placement.specs.Reads.{read_size, read_box, read_standing, read_row, bare};
 
 use crate::placement::Placement;
 use crate::standing::Standing;
+use certificate::certificate::Certificate;
 use model::draft::RowDraft;
 use model::held::HeldRow;
+use model::held_rows::HeldRows;
 use model::limits::{MOST_COORDINATES, MOST_ROWS};
 use model::rows::first_bad_row;
 use model::span::Span;
@@ -98,6 +104,30 @@ impl Placement {
             self.standing = Standing::Nowhere;
         }
         Ok(answer)
+    }
+
+    /// Checks one weight for each row, from -64 to 64 and not all 0, and an order of coordinates counted from 1, and writes the
+    /// certificate of the weighted sum in that order. A refusal leaves the certificate as it was.
+    pub fn check(
+        &self,
+        weights: &[i64],
+        order: &[usize],
+        certificate: &mut Certificate,
+    ) -> Result<(), PlacementFault>
+        ensures answer { result ≡ check_answer weights.now order.now (state_of self.now) }
+        ensures written { told_of certificate.new ≡ check_told weights.now order.now (state_of self.now) (told_of certificate.old) }
+        ensures follows { AggregatedRowFollows }
+        ensures passes { DominantWeightsPass }
+    {
+        if let Standing::Unmade = self.standing {
+            return Err(PlacementFault::NotMade);
+        }
+        let held = HeldRows {
+            size: self.size,
+            rows: self.rows.as_slice(),
+        };
+        certificate.check(held, weights, order)?;
+        Ok(())
     }
 
     /// How many coordinates there are.

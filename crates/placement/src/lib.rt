@@ -2,6 +2,8 @@
 //! shrink until they find that no place fits, or nothing more to cut.
 #![tactic(auto)]
 
+pub mod call;
 mod calls;
 pub mod placement;
+mod runs;
 pub mod standing;

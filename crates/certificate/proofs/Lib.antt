@@ -1,0 +1,16 @@
+-- The lemmas on certificates.
+pub mod WorkedCases
+pub mod TableMaps
+pub mod ChargeSizes
+pub mod StepCharges
+pub mod OrderLengths
+pub mod BudgetSizes
+pub mod DominantChecks
+mod ChargeSteps
+mod CutRanges
+mod CutSteps
+mod SmallNumbers
+mod BudgetTables
+pub mod StoredBudgets
+mod Telling
+mod CheckSteps

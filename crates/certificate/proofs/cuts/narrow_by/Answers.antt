@@ -1,0 +1,26 @@
+-- The span of the axis is met with the cut, or shares nothing with it.
+use Rattle.std.proofs.Common.{◌≡◌, length, ap, ◌∙◌, w64, SFits, rules}
+use Rattle.std.proofs.lemmas.Int.{to_z-of_z}
+use Rattle.model.specs.Boxes.{span}
+use Rattle.factoring.specs.Stored.{step_at}
+use Rattle.certificate.specs.Maps.{cut_of}
+use Rattle.certificate.proofs.CutSteps.{cut_none, cut_some}
+use Rattle.certificate.proofs.cuts.narrow_by.Goals as goal
+use Rattle.certificate.proofs.cuts.narrow_by.Goals.{After-cut_of-cut}
+
+-- the cut of the code is that of the definition
+cut : (c : After-cut_of-cut) → c.cut_of-cut.result ≡ cut_of (length c.args.spans.now) c.args.budget (step_at c.args.step.now) c.args.spans.now
+cut c = c.cut_of-cut.ensures ∙ ap (λ b. cut_of (length c.args.spans.now) b (step_at c.args.step.now) c.args.spans.now) (to_z-of_z w64 c.args.budget c.ranges.budget)
+
+pub returns-in_default : goal.returns-in_default
+returns-in_default c =
+    cut_none (length c.args.spans.now) c.args.budget (step_at c.args.step.now) c.args.spans.now _ _ _ (cut (goal.at.returns-in_default c).After-cut_of-cut) c.ends.ensures
+    c.meeting.ensures.value c.in_default.is
+
+pub returns : goal.returns
+returns c =
+    let f : SFits w64 c.in-Some.low = search rules in
+    let g : SFits w64 c.in-Some.high = search rules in
+    let s : c.new.result ≡ span c.in-Some.low c.in-Some.high = simp to_z-of_z at c.new.ensures in
+    cut_some (length c.args.spans.now) c.args.budget (step_at c.args.step.now) c.args.spans.now _ _ _ (cut (goal.at.returns c).After-cut_of-cut) c.ends.ensures
+    c.meeting.ensures.value _ _ _ c.in-Some.is s

@@ -1,0 +1,23 @@
+-- What the code that cuts coordinates is handed, and what it hands back.
+use Rattle.std.specs.Prelude.{◌≡◌, ℕ, ◌<◌, Bool, true, false, List, pos, ◌≤ℤ◌, ◌<ℤ◌, Some, None, Option}
+use Rattle.numbers.specs.Magnitudes.{abs}
+use Rattle.model.specs.declared.span.Span.{Span}
+use Rattle.model.specs.Boxes.{IsBox}
+use Rattle.factoring.specs.Steps.{Step}
+
+-- a step of n coordinates whose square has numbers within the bounds of a factoring's steps
+pub record SmallSquare (n : ℕ) (s : Step) : Type 0 where
+  pub axis : s.axis < n
+  pub pivot : pos 0 <ℤ s.pivot
+  pub slopes : (j : ℕ) → j < n → abs (s.slope j) ≤ℤ pos 65536
+  pub shift : abs s.shift ≤ℤ pos 65536
+
+-- such a step, and a box of n coordinates
+pub record Cuttable (n : ℕ) (s : Step) (X : List Span) : Type 0 where
+  pub step : SmallSquare n s
+  pub box : IsBox n X
+
+-- what is handed back of a map that gives o: whether a box Y is left
+abbrev pub Left : Option (List Span) → Bool → List Span → Type 0
+Left o false Y = o ≡ None
+Left o true Y = o ≡ Some Y

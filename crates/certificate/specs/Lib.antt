@@ -1,0 +1,16 @@
+-- The certificate: what its squares may come to on a box, where that leaves each coordinate, and what a check writes.
+pub mod Charges
+pub mod Budgets
+pub mod Ready
+pub mod Maps
+pub mod Certificates
+pub mod Checks
+pub mod Laws
+pub mod Cutting
+pub mod Cases
+pub mod CertificateLaws
+pub mod SquareSteps
+pub mod BudgetBounds
+pub mod FittingSums
+pub mod CutLaws
+pub mod CertificateNarrowerLemmas

@@ -1,0 +1,20 @@
+//! A call on a placement, as a run makes it.
+
+use certificate::certificate::Certificate;
+
+/// One call of a run.
+#[derive(Drop)]
+pub enum Call<'a, N> {
+    /// Narrows by a narrower.
+    Narrow(N),
+    /// Checks weights and an order, and writes the certificate.
+    Check(&'a [i64], &'a [usize], Certificate),
+    /// Reads the size.
+    ReadSize,
+    /// Reads the box.
+    ReadBox,
+    /// Reads the standing.
+    ReadStanding,
+    /// Reads the row with a number.
+    ReadRow(usize),
+}

@@ -1,0 +1,9 @@
+-- The lemmas on weighted sums, for this crate and those above it.
+pub mod Forms
+pub mod Usable
+pub mod Aggregates
+pub mod SumsFit
+pub mod Passing
+pub mod MarkSteps
+pub mod TotalSteps
+pub mod Fills

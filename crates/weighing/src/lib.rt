@@ -1,0 +1,9 @@
+//! One row from many: a weight for each row, and the weighted sum of all, which follows from the rows whose weight is not 0.
+#![tactic(auto)]
+
+pub mod coefficient;
+pub mod marks;
+mod refusals;
+mod tables;
+mod totals;
+pub mod weights;
