@@ -1,4 +1,5 @@
--- The certificate: what its squares may come to on a box, where that leaves each coordinate, and what a check writes.
+-- The certificate: what its squares may come to on a box, where that leaves each coordinate, what a check writes,
+-- and the laws that the narrower of it shows, with their lemmas.
 pub mod Charges
 pub mod Budgets
 pub mod Ready

@@ -5,7 +5,7 @@ use Rattle.std.proofs.lemmas.Bool.{cases_lt}
 use Rattle.std.proofs.lemmas.Int.{ints}
 use Rattle.model.specs.declared.span.Span.{Span}
 use Rattle.model.specs.Limits.{most_coordinates}
-use Rattle.model.specs.Boxes.{zero_span, eq_z, same_spans, same_box, padded}
+use Rattle.model.specs.Boxes.{zero_span, eq_z, equal_spans, same_box, padded}
 
 eq_z_yes : (a b : ℤ) → eq_z a b ≡ true → a ≡ b
 eq_z_yes a b h = grind (arith, ints)
@@ -22,21 +22,21 @@ and_right a b h = grind arith
 pub same_ends : (s t : Span) → s.low ≡ t.low → s.high ≡ t.high → s ≡ t
 same_ends s t p q = λ i. record { low = p i; high = q i }
 
-same_span_yes : (s t : Span) → same_spans s t ≡ true → s ≡ t
-same_span_yes s t h = same_ends s t (eq_z_yes _ _ (and_left _ _ h)) (eq_z_yes _ _ (and_right _ _ h))
+equal_spans_yes : (s t : Span) → equal_spans s t ≡ true → s ≡ t
+equal_spans_yes s t h = same_ends s t (eq_z_yes _ _ (and_left _ _ h)) (eq_z_yes _ _ (and_right _ _ h))
 
-same_span_same : (s : Span) → same_spans s s ≡ true
-same_span_same s = rw (eq_z_same s.low, eq_z_same s.high)
+equal_spans_same : (s : Span) → equal_spans s s ≡ true
+equal_spans_same s = rw (eq_z_same s.low, eq_z_same s.high)
 
 pub same_box_yes : (X Y : List Span) → same_box X Y ≡ true → X ≡ Y
 same_box_yes [] [] h = refl
 same_box_yes [] (t ∷ Y) h = cc
 same_box_yes (s ∷ X) [] h = cc
-same_box_yes (s ∷ X) (t ∷ Y) h = let p : s ≡ t = same_span_yes s t (and_left _ (same_box X Y) h) in let q : X ≡ Y = same_box_yes X Y (and_right (same_spans s t) _ h) in cc
+same_box_yes (s ∷ X) (t ∷ Y) h = let p : s ≡ t = equal_spans_yes s t (and_left _ (same_box X Y) h) in let q : X ≡ Y = same_box_yes X Y (and_right (equal_spans s t) _ h) in cc
 
 pub same_box_same : (X : List Span) → same_box X X ≡ true
 same_box_same [] = refl
-same_box_same (s ∷ X) = rw (same_span_same s, same_box_same X)
+same_box_same (s ∷ X) = rw (equal_spans_same s, same_box_same X)
 
 -- so, where it says no, they differ
 pub same_box_no : (X Y : List Span) → same_box X Y ≡ false → X ≡ Y → ⊥
@@ -52,15 +52,15 @@ same_box_longer X Y n = go (same_box X Y) refl
 
 -- ---- a loop through two runs of one length
 module _ (X Y : List Span) (i : ℕ) (h : i < length X) (e : length X ≡ length Y) where
-  two_more : same_box (drop i X) (drop i Y) ≡ (same_spans (get_or X i zero_span) (get_or Y i zero_span) && same_box (drop (i + 1) X) (drop (i + 1) Y))
+  two_more : same_box (drop i X) (drop i Y) ≡ (equal_spans (get_or X i zero_span) (get_or Y i zero_span) && same_box (drop (i + 1) X) (drop (i + 1) Y))
   two_more =
       let k : i < length Y = omega arith in
       ap (λ V. same_box V (drop i Y)) (drop_more X i zero_span h) ∙ ap (λ V. same_box (get_or X i zero_span ∷ drop (i + 1) X) V) (drop_more Y i zero_span k)
 
-  pub same_more : true ≡ same_spans (get_or X i zero_span) (get_or Y i zero_span) → same_box (drop (i + 1) X) (drop (i + 1) Y) ≡ same_box (drop i X) (drop i Y)
+  pub same_more : true ≡ equal_spans (get_or X i zero_span) (get_or Y i zero_span) → same_box (drop (i + 1) X) (drop (i + 1) Y) ≡ same_box (drop i X) (drop i Y)
   same_more t = sym (two_more ∙ ap (λ b. b && same_box (drop (i + 1) X) (drop (i + 1) Y)) (sym t))
 
-  pub same_not : false ≡ same_spans (get_or X i zero_span) (get_or Y i zero_span) → false ≡ same_box (drop i X) (drop i Y)
+  pub same_not : false ≡ equal_spans (get_or X i zero_span) (get_or Y i zero_span) → false ≡ same_box (drop i X) (drop i Y)
   same_not t = sym (two_more ∙ ap (λ b. b && same_box (drop (i + 1) X) (drop (i + 1) Y)) (sym t))
 
 pub same_all : (X Y : List Span) (i : ℕ) → length X ≤ i → length X ≡ length Y → true ≡ same_box (drop i X) (drop i Y)

@@ -64,15 +64,15 @@ abbrev pub eq_z : ℤ → ℤ → Bool
 eq_z a b = int_le a b && int_le b a
 
 -- the spans are equal
-abbrev pub same_spans : Span → Span → Bool
-same_spans s t = eq_z s.low t.low && eq_z s.high t.high
+abbrev pub equal_spans : Span → Span → Bool
+equal_spans s t = eq_z s.low t.low && eq_z s.high t.high
 
 -- the boxes are equal
 abbrev pub same_box : List Span → List Span → Bool
 same_box [] [] = true
 same_box [] (t ∷ Y) = false
 same_box (s ∷ X) [] = false
-same_box (s ∷ X) (t ∷ Y) = same_spans s t && same_box X Y
+same_box (s ∷ X) (t ∷ Y) = equal_spans s t && same_box X Y
 
 -- nine spans: the first nine of a run, and zeros where it has fewer
 abbrev pub padded : List Span → List Span

@@ -1,7 +1,7 @@
 //! What is asked of spans.
 
 ghost use Rattle.std.specs.Prelude.{◌≡◌};
-ghost use Rattle.model.specs.Boxes.{span, ends, within, bad_span, same_spans, same_box, padded};
+ghost use Rattle.model.specs.Boxes.{span, ends, within, bad_span, equal_spans, same_box, padded};
 ghost use Rattle.model.specs.Laws.{BoxHasNoBadSpan};
 
 use crate::limits::BOX_LIMIT;
@@ -55,7 +55,7 @@ pub fn copy_of(spans: &[Span]) -> [Span; 9]
 }
 
 fn is_same(s: Span, t: Span) -> bool
-    ensures { result ≡ same_spans s t }
+    ensures { result ≡ equal_spans s t }
 {
     ((s.low <= t.low) & (t.low <= s.low)) & ((s.high <= t.high) & (t.high <= s.high))
 }

@@ -1,4 +1,4 @@
--- The lemmas on rows over boxes and on maps of boxes, for this crate and those above it.
+-- How the code of the one-row narrower and of the layers comes to the definitions, and lemmas on answers for the crates above.
 pub mod WorkedRows
 pub mod Answering
 mod CodeRanges

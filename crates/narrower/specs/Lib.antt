@@ -1,4 +1,4 @@
--- What narrowers mean, refuse and answer, the rule of one row, and the layers.
+-- What narrowers mean, refuse and answer, the rule of one row, the layers, and the laws that each of these narrowers shows, with their lemmas.
 pub mod Maps
 pub mod Narrowings
 pub mod Faults

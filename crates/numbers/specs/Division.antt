@@ -29,12 +29,12 @@ abbrev pub held : ℤ → ℤ
 held z = saturate_to_bits 63 z
 
 -- the quotient rounded down, as a 64-bit number; there is none by 0
-abbrev pub quotient_down : ℤ → ℤ → Option ℤ
-quotient_down a b = cond (is_zero b) None (Some (held (down a b)))
+abbrev pub down_quotient : ℤ → ℤ → Option ℤ
+down_quotient a b = cond (is_zero b) None (Some (held (down a b)))
 
 -- the quotient rounded up, as a 64-bit number; there is none by 0
-abbrev pub quotient_up : ℤ → ℤ → Option ℤ
-quotient_up a b = cond (is_zero b) None (Some (held (up a b)))
+abbrev pub up_quotient : ℤ → ℤ → Option ℤ
+up_quotient a b = cond (is_zero b) None (Some (held (up a b)))
 
 -- -7 / 2, 7 / -2 and a large one
 down_minus_seven : down (negsuc 6) (pos 2) ≡ negsuc 3

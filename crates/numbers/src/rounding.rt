@@ -1,7 +1,7 @@
 //! Fractions rounded to a whole number.
 
 ghost use Rattle.std.specs.Prelude.{◌≡◌, pos, ◌≢◌};
-ghost use Rattle.numbers.specs.Division.{down, up, held, quotient_down, quotient_up};
+ghost use Rattle.numbers.specs.Division.{down, up, held, down_quotient, up_quotient};
 ghost use Rattle.numbers.specs.Laws.{DownIsGreatestNotAbove, UpIsLeastNotBelow};
 ghost use Rattle.numbers.specs.Ranges.{off_zero};
 
@@ -9,7 +9,7 @@ use crate::positive::Positive;
 
 /// The greatest number that is not above `a / b`; none where `b` is 0.
 pub fn floor_div(a: i64, b: i64) -> Option<i64>
-    ensures value { result ≡ quotient_down a b }
+    ensures value { result ≡ down_quotient a b }
     ensures law { DownIsGreatestNotAbove }
 {
     if b == 0 {
@@ -21,7 +21,7 @@ pub fn floor_div(a: i64, b: i64) -> Option<i64>
 
 /// The least number that is not below `a / b`; none where `b` is 0.
 pub fn ceil_div(a: i64, b: i64) -> Option<i64>
-    ensures value { result ≡ quotient_up a b }
+    ensures value { result ≡ up_quotient a b }
     ensures law { UpIsLeastNotBelow }
 {
     if b == 0 {

@@ -1,5 +1,5 @@
 -- What a line that describes the problem makes of it.
-use Rattle.std.specs.Prelude.{◌≡◌, ℕ, ◌-◌, min, max, cond, ◌&&◌, ◌⊎◌, [], ◌∷◌, ◌++◌, length, set, ℤ, pos, negsuc, Some, None, Ok, Err, Option, Result, ◌==◌, nat_le, nat_lt, slice_index_or, slice_set}
+use Rattle.std.specs.Prelude.{◌≡◌, ℕ, ◌-◌, min, max, cond, ◌&&◌, ◌⊎◌, [], ◌∷◌, ◌++◌, length, ℤ, pos, negsuc, Some, None, Ok, Err, Option, Result, ◌==◌, nat_le, nat_lt, slice_index_or, slice_set}
 use Rattle.model.specs.declared.span.Span.{Span}
 use Rattle.model.specs.declared.draft.RowDraft.{RowDraft}
 use Rattle.model.specs.Drafts.{blank}
@@ -52,7 +52,7 @@ with_square i c d = record { size = d.size; squares = slice_set d.squares i c; p
 -- a row with the coefficient of a pair, which is held at the lesser place first
 abbrev pub with_pair : ℕ → ℕ → Span → RowDraft → RowDraft
 with_pair i j c d =
-    let pairs = set d.pairs (min i j) (slice_set (slice_index_or d.pairs (min i j) []) (max i j) c) in
+    let pairs = slice_set d.pairs (min i j) (slice_set (slice_index_or d.pairs (min i j) []) (max i j) c) in
     record { size = d.size; squares = d.squares; pairs = pairs; singles = d.singles; low = d.low; high = d.high }
 
 -- a row with the coefficient of a single
