@@ -35,6 +35,7 @@ Inbox n B X d = (j : ℕ) → j < n → Between (at B j) d (X j)
 
 -- ---- what a step is
 
+-- a step below the size n, with a positive pivot, and with slopes and a shift within 65,536
 pub record Sound (n : ℕ) (s : Step) : Type 0 where
   pub axis_in : s.axis < n
   pub pivot_pos : pos 0 <ℤ s.pivot
@@ -93,6 +94,7 @@ rest_below n f B X d nn inb =
 
 -- ---- all the steps
 
+-- the squares that were taken out, with all gains and charges, come to no more than the form f at the point X over d
 abbrev pub Taken : ℕ → List Span → (ℕ → ℤ) → ℤ → Form → Factors → Type 0
 Taken n B X d f fs =
     (steps_sum fs.steps (λ s. s.pivot *ℤ (line_value n s X d *ℤ line_value n s X d))

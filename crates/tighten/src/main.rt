@@ -23,7 +23,11 @@ fn run(rt: &HostRuntime) -> Result<(), Failure> {
     let heap = rt.alloc();
     let mut session = Session::new(heap);
     let mut number = 0u64;
-    for line in BufReader::new(heap, rt.stdin())?.lines(heap) {
+    // Making a reader fails for want of memory alone.
+    let Ok(input) = BufReader::new(heap, rt.stdin()) else {
+        return Err(Failure::Memory);
+    };
+    for line in input.lines(heap) {
         number = number.saturating_add(1);
         let line = match line {
             Ok(line) => line,
