@@ -1,7 +1,8 @@
 //! What is asked of rows.
 
 ghost use Rattle.std.specs.Prelude.{◌≡◌, ◌<◌, ◌≤◌};
-ghost use Rattle.model.specs.Rows.{row_fits, squares_fit, column_fits, pairs_fit, singles_fit, end_fits, ends_ordered, side_fits};
+ghost use Rattle.model.specs.Boxes.{ends};
+ghost use Rattle.model.specs.Rows.{pair_of, row_fits, squares_fit, column_fits, pairs_fit, singles_fit, end_fits, ends_ordered, side_fits};
 ghost use Rattle.model.specs.Drafts.{drafted, blank, row_of, bad_row};
 ghost use Rattle.model.specs.Laws.{FittingRowKeepsLimits};
 
@@ -14,14 +15,24 @@ impl RowDraft {
     pub fn new(size: usize) -> RowDraft
         ensures { result ≡ blank size }
     {
-        let zero = Span { low: 0, high: 0 };
         RowDraft {
             size,
-            squares: [zero; 9],
-            pairs: [[zero; 9]; 9],
-            singles: [zero; 9],
+            squares: [Span::default(); 9],
+            pairs: [[Span::default(); 9]; 9],
+            singles: [Span::default(); 9],
             low: None,
             high: None,
+        }
+    }
+
+    /// The coefficient of x_i·x_j, whichever index is less; 0 where the tables have no such place.
+    pub fn pair(&self, i: usize, j: usize) -> Span
+        ensures { ends result ≡ pair_of (drafted self.now) i j }
+    {
+        let (first, second) = if i < j { (i, j) } else { (j, i) };
+        match self.pairs.get(first) {
+            None => Span::default(),
+            Some(line) => line.get(second).copied().unwrap_or_default(),
         }
     }
 

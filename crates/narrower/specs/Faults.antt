@@ -9,9 +9,9 @@ use Rattle.narrower.specs.declared.faults.NarrowFault.TheVariants as narrow
 use Rattle.narrower.specs.declared.faults.FactorFault.{FactorFault}
 use Rattle.narrower.specs.declared.faults.FactorFault.TheVariants.{NoPivot, Steep, Large}
 use Rattle.narrower.specs.declared.faults.ProposalFault.{ProposalFault}
-use Rattle.narrower.specs.declared.faults.ProposalFault.TheVariants.{Weights, AbsentEnd, Order, Factor}
+use Rattle.narrower.specs.declared.faults.ProposalFault.TheVariants.{WeightCount, Weights, AllZero, AbsentEnd, OrderLength, Order, Factor}
 use Rattle.narrower.specs.declared.faults.PlacementFault.{PlacementFault}
-use Rattle.narrower.specs.declared.faults.PlacementFault.TheVariants.{Size, BadSpan, BadRow, OtherSize, NotMade, AlreadyMade, AtNone, Proposal}
+use Rattle.narrower.specs.declared.faults.PlacementFault.TheVariants.{Size, BadSpan, TooManyRows, BadRow, NoSuchRow, OtherSize, NotMade, AlreadyMade, AtNone, Proposal}
 
 -- the number of a narrower's refusal
 abbrev pub narrow_number : NarrowFault → ℕ
@@ -45,22 +45,31 @@ factor_layer e = layer.Factoring
 
 -- the number of a proposal's refusal
 abbrev pub proposal_number : ProposalFault → ℕ
+proposal_number WeightCount = 15
 proposal_number (Weights k) = 15
+proposal_number AllZero = 15
 proposal_number (AbsentEnd k) = 16
+proposal_number OrderLength = 17
 proposal_number (Order k) = 17
 proposal_number (Factor e) = factor_number e
 
 -- its place: the first entry at fault, from 1, or 0
 abbrev pub proposal_place : ProposalFault → Place
+proposal_place WeightCount = Entry 0
 proposal_place (Weights k) = Entry k
+proposal_place AllZero = Entry 0
 proposal_place (AbsentEnd k) = Entry k
+proposal_place OrderLength = Entry 0
 proposal_place (Order k) = Entry k
 proposal_place (Factor e) = factor_place e
 
 -- its layer
 abbrev pub proposal_layer : ProposalFault → Layer
+proposal_layer WeightCount = layer.Proposal
 proposal_layer (Weights k) = layer.Proposal
+proposal_layer AllZero = layer.Proposal
 proposal_layer (AbsentEnd k) = layer.Proposal
+proposal_layer OrderLength = layer.Proposal
 proposal_layer (Order k) = layer.Proposal
 proposal_layer (Factor e) = factor_layer e
 
@@ -68,7 +77,9 @@ proposal_layer (Factor e) = factor_layer e
 abbrev pub placement_number : PlacementFault → ℕ
 placement_number Size = 11
 placement_number (BadSpan k) = 12
+placement_number TooManyRows = 13
 placement_number (BadRow k) = 13
+placement_number NoSuchRow = 13
 placement_number OtherSize = 14
 placement_number (Proposal e) = proposal_number e
 placement_number NotMade = 31
@@ -79,7 +90,9 @@ placement_number AtNone = 33
 abbrev pub placement_place : PlacementFault → Place
 placement_place Size = Entry 0
 placement_place (BadSpan k) = Entry k
+placement_place TooManyRows = Entry 0
 placement_place (BadRow k) = Entry k
+placement_place NoSuchRow = Entry 0
 placement_place OtherSize = Entry 0
 placement_place (Proposal e) = proposal_place e
 placement_place NotMade = Entry 0
@@ -90,7 +103,9 @@ placement_place AtNone = Entry 0
 abbrev pub placement_layer : PlacementFault → Layer
 placement_layer Size = layer.Placement
 placement_layer (BadSpan k) = layer.Placement
+placement_layer TooManyRows = layer.Placement
 placement_layer (BadRow k) = layer.Placement
+placement_layer NoSuchRow = layer.Placement
 placement_layer OtherSize = layer.Placement
 placement_layer (Proposal e) = proposal_layer e
 placement_layer NotMade = layer.Placement

@@ -3,6 +3,8 @@
 ghost use Rattle.std.specs.Prelude.{◌≡◌};
 ghost use Rattle.narrower.specs.Answers.{answer_number};
 
+use std::fmt;
+
 /// What a narrowing came to.
 #[derive(Clone, Copy, PartialEq, Eq, Debug)]
 pub enum Answer {
@@ -24,5 +26,16 @@ impl Answer {
             Answer::Narrowed => 2,
             Answer::Empty => 3,
         }
+    }
+}
+
+/// `stood`, `narrowed` or `none`.
+impl fmt::Display for Answer {
+    fn fmt<W: fmt::Write>(&self, f: &mut fmt::Formatter<W>) -> fmt::Result {
+        f.write_str(match self {
+            Answer::Stood => "stood",
+            Answer::Narrowed => "narrowed",
+            Answer::Empty => "none",
+        })
     }
 }

@@ -5,12 +5,25 @@ ghost use Rattle.narrower.specs.declared.faults.ProposalFault.TheVariants.{Facto
 ghost use Rattle.narrower.specs.declared.faults.PlacementFault.TheVariants.{Proposal};
 ghost use Rattle.narrower.specs.Faults.{RefusalsPassUpWhole, narrow_number, narrow_place, narrow_layer, factor_layer, factor_number, factor_place, proposal_number, proposal_place, proposal_layer, placement_number, placement_place, placement_layer, raised};
 
+use std::fmt;
+
 /// Which layer refused.
 #[derive(Clone, Copy, PartialEq, Eq, Debug)]
 pub enum Layer {
     Placement,
     Proposal,
     Factoring,
+}
+
+/// `placement`, `proposal` or `factoring`.
+impl fmt::Display for Layer {
+    fn fmt<W: fmt::Write>(&self, f: &mut fmt::Formatter<W>) -> fmt::Result {
+        f.write_str(match self {
+            Self::Placement => "placement",
+            Self::Proposal => "proposal",
+            Self::Factoring => "factoring",
+        })
+    }
 }
 
 /// What a refusal points at.
@@ -20,6 +33,16 @@ pub enum Place {
     Entry(usize),
     /// A step of a factoring and its coordinate, both from 1.
     Step(usize, usize),
+}
+
+/// As `2`, or as `step 1 coordinate 3`.
+impl fmt::Display for Place {
+    fn fmt<W: fmt::Write>(&self, f: &mut fmt::Formatter<W>) -> fmt::Result {
+        match self {
+            Place::Entry(entry) => write!(f, "{entry}"),
+            Place::Step(step, coordinate) => write!(f, "step {step} coordinate {coordinate}"),
+        }
+    }
 }
 
 /// What a narrower refuses of a run of spans.
@@ -45,11 +68,17 @@ pub enum FactorFault {
 /// What a check of weights and an order refuses.
 #[derive(Clone, Copy, PartialEq, Eq, Debug)]
 pub enum ProposalFault {
-    /// 15: a list of another length (place 0), a weight beyond ±64, or all weights 0 (place 0).
+    /// 15: there is not one weight for each row.
+    WeightCount,
+    /// 15: the weight at this place is beyond ±64.
     Weights(usize),
+    /// 15: all weights are 0.
+    AllZero,
     /// 16: the weight at this place needs an end that is absent.
     AbsentEnd(usize),
-    /// 17: an order that is empty or too long (place 0), or an entry outside 1 to n or repeated.
+    /// 17: the order is empty or longer than the size.
+    OrderLength,
+    /// 17: the entry at this place is outside 1 to the size or repeats an earlier one.
     Order(usize),
     /// 18 to 20.
     Factor(FactorFault),
@@ -62,9 +91,12 @@ pub enum PlacementFault {
     Size,
     /// 12: the span at this place is crossed or beyond ±4,096.
     BadSpan(usize),
-    /// 13: over 16 rows or a row number that is not held (place 0), or the row at this place is of another size, crossed or beyond
-    /// its limits.
+    /// 13: there are over 16 rows.
+    TooManyRows,
+    /// 13: the row at this place is of another size, crossed or beyond its limits.
     BadRow(usize),
+    /// 13: no row has the number that was asked for.
+    NoSuchRow,
     /// 14: the narrower is of another size.
     OtherSize,
     /// 31: the placement is not made.
@@ -150,9 +182,9 @@ impl FactorFault {
         ensures { result ≡ factor_place self }
     {
         match self {
-            FactorFault::NoPivot(step, coordinate) => Place::Step(step, coordinate),
-            FactorFault::Steep(step, coordinate) => Place::Step(step, coordinate),
-            FactorFault::Large(step, coordinate) => Place::Step(step, coordinate),
+            FactorFault::NoPivot(step, coordinate)
+            | FactorFault::Steep(step, coordinate)
+            | FactorFault::Large(step, coordinate) => Place::Step(step, coordinate),
         }
     }
 
@@ -170,9 +202,9 @@ impl ProposalFault {
         ensures { result ≡ proposal_number self }
     {
         match self {
-            ProposalFault::Weights(_) => 15,
+            ProposalFault::WeightCount | ProposalFault::Weights(_) | ProposalFault::AllZero => 15,
             ProposalFault::AbsentEnd(_) => 16,
-            ProposalFault::Order(_) => 17,
+            ProposalFault::OrderLength | ProposalFault::Order(_) => 17,
             ProposalFault::Factor(e) => e.number(),
         }
     }
@@ -186,6 +218,7 @@ impl ProposalFault {
             ProposalFault::AbsentEnd(place) => Place::Entry(place),
             ProposalFault::Order(place) => Place::Entry(place),
             ProposalFault::Factor(e) => e.place(),
+            _ => Place::Entry(0),
         }
     }
 
@@ -194,10 +227,8 @@ impl ProposalFault {
         ensures { result ≡ proposal_layer self }
     {
         match self {
-            ProposalFault::Weights(_) => Layer::Proposal,
-            ProposalFault::AbsentEnd(_) => Layer::Proposal,
-            ProposalFault::Order(_) => Layer::Proposal,
             ProposalFault::Factor(e) => e.layer(),
+            _ => Layer::Proposal,
         }
     }
 }
@@ -211,7 +242,9 @@ impl PlacementFault {
         match self {
             PlacementFault::Size => 11,
             PlacementFault::BadSpan(_) => 12,
-            PlacementFault::BadRow(_) => 13,
+            PlacementFault::TooManyRows
+            | PlacementFault::BadRow(_)
+            | PlacementFault::NoSuchRow => 13,
             PlacementFault::OtherSize => 14,
             PlacementFault::NotMade => 31,
             PlacementFault::AlreadyMade => 32,
