@@ -1,7 +1,6 @@
 -- What `every`, `fails_from` and `first_below` tell, and how a loop steps through them.
-use Rattle.std.proofs.Common.{◌≡◌, ℕ, zero, suc, ◌+◌, ◌<◌, ◌≤◌, Bool, true, false, cond, ◌⊎◌, List, [], ◌∷◌, length, get_or, drop, Some, None, Decides, Option, sym, refl, ap, ◌∙◌, ap₂, inl, inr, ⊎_elim, add-one, arith}
+use Rattle.std.proofs.Common.{◌≡◌, ℕ, zero, suc, ◌+◌, ◌<◌, ◌≤◌, Bool, true, false, cond, ◌⊎◌, List, [], ◌∷◌, length, get_or, Some, None, Decides, Option, sym, refl, ap, ◌∙◌, ap₂, inl, inr, ⊎_elim, add-one, arith}
 use mathlib.Core.Bool.{and_comm}
-use Rattle.std.proofs.lemmas.List.{at_drop_more, at_drop_all}
 use Rattle.std.proofs.lemmas.Bool.{both_ways, cases_Bool, cases_lt, and_from, cond-true}
 use Rattle.std.proofs.lemmas.Bool.Decides.{Decides-below_and}
 use Rattle.model.specs.Firsts.{every, fails_from, missing, first_below}
@@ -44,22 +43,6 @@ module _ {A : Type 0} (ok : A → Bool) (d : A) where
   pub unfailed_of : (k : ℕ) (xs : List A) → ((i : ℕ) → i < length xs → ok (get_or xs i d) ≡ true) → fails_from ok k xs ≡ None
   unfailed_of k [] h = refl
   unfailed_of k (x ∷ xs) h = cond-true (ok x) (fails_from ok (k + 1) xs) (Some k) (h 0 (omega arith)) ∙ unfailed_of (k + 1) xs (λ i l. h (suc i) (omega arith))
-
-  -- what is left at i, by the element there
-  fails_at : (xs : List A) (i : ℕ) → i < length xs → (b : Bool) → b ≡ ok (get_or xs i d) → cond b (fails_from ok ((i + 1) + 1) (drop (i + 1) xs)) (Some (i + 1)) ≡ fails_from ok (i + 1) (drop i xs)
-  fails_at xs i l b e = sym (at_drop_more (fails_from ok (i + 1)) xs i d l ∙ ap (λ t. cond t (fails_from ok ((i + 1) + 1) (drop (i + 1) xs)) (Some (i + 1))) (sym e))
-
-  -- an element that fails, from the one at i on
-  pub fails_here : (xs : List A) (i : ℕ) → i < length xs → false ≡ ok (get_or xs i d) → Some (i + 1) ≡ fails_from ok (i + 1) (drop i xs)
-  fails_here xs i l e = fails_at xs i l false e
-
-  -- an element that passes is left out
-  pub fails_more : (xs : List A) (i : ℕ) → i < length xs → true ≡ ok (get_or xs i d) → fails_from ok ((i + 1) + 1) (drop (i + 1) xs) ≡ fails_from ok (i + 1) (drop i xs)
-  fails_more xs i l e = fails_at xs i l true e
-
--- at the end none is left that could fail
-pub fails_none : {A : Type 0} (ok : A → Bool) (xs : List A) (i : ℕ) → length xs ≤ i → None ≡ fails_from ok (i + 1) (drop i xs)
-fails_none ok xs i l = sym (at_drop_all (fails_from ok (i + 1)) xs i l)
 
 -- ---- nothing was found
 

@@ -1,7 +1,9 @@
 -- Runs of spans that are the same, and copies of them.
-use Rattle.std.proofs.Common.{◌≡◌, ℕ, ◌+◌, ◌<◌, ◌≤◌, min, Bool, true, false, ◌&&◌, ◌⊎◌, List, [], ◌∷◌, ◌++◌, length, get_or, take, drop, replicate, ℤ, sym, refl, ap, ◌∙◌, inl, inr, arith}
-use Rattle.std.proofs.lemmas.List.{drop_more, drop_all, take_at, take_all}
+use Rattle.std.proofs.Common.{◌≡◌, ℕ, ◌<◌, ◌≤◌, min, int_eq, Bool, true, false, ◌&&◌, ◌⊎◌, List, [], ◌∷◌, ◌++◌, length, take, drop, replicate, ℤ, sym, refl, ap, ap₂, ◌∙◌, inl, inr, arith}
+use Rattle.std.proofs.lemmas.List.{drop_all, take_at, take_all}
 use Rattle.std.proofs.lemmas.Bool.{cases_lt}
+use Rattle.std.proofs.lemmas.Bool.Decides.{same_from_decides, Decides-int_eq}
+use lib.Pointwise.{pointwise}
 use Rattle.std.proofs.lemmas.Int.{ints}
 use Rattle.model.specs.declared.span.Span.{Span}
 use Rattle.model.specs.Limits.{most_coordinates}
@@ -42,32 +44,6 @@ same_box_same (s ∷ X) = rw (equal_spans_same s, same_box_same X)
 pub same_box_no : (X Y : List Span) → same_box X Y ≡ false → X ≡ Y → ⊥
 same_box_no X Y h e = let k = same_box_same X in let z : true ≡ false = cc in grind arith
 
--- runs of two lengths differ
-pub same_box_longer : (X Y : List Span) → (length X ≡ length Y → ⊥) → false ≡ same_box X Y
-same_box_longer X Y n = go (same_box X Y) refl
-  where
-    go : (b : Bool) → same_box X Y ≡ b → false ≡ b
-    go true e = absurd (n (ap length (same_box_yes X Y e)))
-    go false e = refl
-
--- ---- a loop through two runs of one length
-module _ (X Y : List Span) (i : ℕ) (h : i < length X) (e : length X ≡ length Y) where
-  two_more : same_box (drop i X) (drop i Y) ≡ (equal_spans (get_or X i zero_span) (get_or Y i zero_span) && same_box (drop (i + 1) X) (drop (i + 1) Y))
-  two_more =
-      let k : i < length Y = omega arith in
-      ap (λ V. same_box V (drop i Y)) (drop_more X i zero_span h) ∙ ap (λ V. same_box (get_or X i zero_span ∷ drop (i + 1) X) V) (drop_more Y i zero_span k)
-
-  pub same_more : true ≡ equal_spans (get_or X i zero_span) (get_or Y i zero_span) → same_box (drop (i + 1) X) (drop (i + 1) Y) ≡ same_box (drop i X) (drop i Y)
-  same_more t = sym (two_more ∙ ap (λ b. b && same_box (drop (i + 1) X) (drop (i + 1) Y)) (sym t))
-
-  pub same_not : false ≡ equal_spans (get_or X i zero_span) (get_or Y i zero_span) → false ≡ same_box (drop i X) (drop i Y)
-  same_not t = sym (two_more ∙ ap (λ b. b && same_box (drop (i + 1) X) (drop (i + 1) Y)) (sym t))
-
-pub same_all : (X Y : List Span) (i : ℕ) → length X ≤ i → length X ≡ length Y → true ≡ same_box (drop i X) (drop i Y)
-same_all X Y i h e =
-    let k : length Y ≤ i = omega arith in
-    sym (ap (λ V. same_box V (drop i Y)) (drop_all i X h) ∙ ap (λ V. same_box [] V) (drop_all i Y k))
-
 -- ---- a copy
 -- the copy of at most nine spans begins with them
 pub take-padded : (X : List Span) → length X ≤ most_coordinates → take (length X) (padded X) ≡ X
@@ -87,3 +63,14 @@ padded_of X n e = go (cases_lt most_coordinates (length X))
     go (inl h) =
         let k : n ≡ most_coordinates = omega arith in
         rw k (ap (λ V. take most_coordinates X ++ V) (sym (drop_all (length X) zeros (omega arith))))
+
+-- ---- runs compared span by span, each by its two ends
+
+equal_ends : (a b : ℤ) → int_eq a b ≡ eq_z a b
+equal_ends a b = same_from_decides (int_eq a b) (eq_z a b) (Decides-int_eq a b) (eq_z_yes a b, λ e. rw (← e) (eq_z_same a))
+
+pub same_by_ends : (X Y : List Span) → pointwise (λ s t. int_eq s.low t.low && int_eq s.high t.high) X Y ≡ same_box X Y
+same_by_ends [] [] = refl
+same_by_ends [] (t ∷ Y) = refl
+same_by_ends (s ∷ X) [] = refl
+same_by_ends (s ∷ X) (t ∷ Y) = ap₂ ◌&&◌ (ap₂ ◌&&◌ (equal_ends s.low t.low) (equal_ends s.high t.high)) (same_by_ends X Y)

@@ -52,57 +52,38 @@ fn squares_fit(row: &RowDraft) -> bool
     requires { row.now.size ≤ 9 }
     ensures { result ≡ squares_fit (drafted row.now) }
 {
-    for i in 0..row.size {
-        if !row.squares[i].is_within(SQUARE_LIMIT) {
-            return false;
-        }
-    }
-    true
+    row.squares[..row.size]
+        .iter()
+        .all(|s| s.is_within(SQUARE_LIMIT))
 }
 
 fn column_fits(row: &RowDraft, j: usize) -> bool
     requires { j < 9 }
     ensures { result ≡ column_fits (drafted row.now) j }
 {
-    for i in 0..j {
-        if !row.pairs[i][j].is_within(SQUARE_LIMIT) {
-            return false;
-        }
-    }
-    true
+    (0..j).all(|i| row.pairs[i][j].is_within(SQUARE_LIMIT))
 }
 
 fn pairs_fit(row: &RowDraft) -> bool
     requires { row.now.size ≤ 9 }
     ensures { result ≡ pairs_fit (drafted row.now) }
 {
-    for j in 0..row.size {
-        if !column_fits(row, j) {
-            return false;
-        }
-    }
-    true
+    (0..row.size).all(|j| column_fits(row, j))
 }
 
 fn singles_fit(row: &RowDraft) -> bool
     requires { row.now.size ≤ 9 }
     ensures { result ≡ singles_fit (drafted row.now) }
 {
-    for i in 0..row.size {
-        if !row.singles[i].is_within(SINGLE_LIMIT) {
-            return false;
-        }
-    }
-    true
+    row.singles[..row.size]
+        .iter()
+        .all(|s| s.is_within(SINGLE_LIMIT))
 }
 
 fn end_fits(end: Option<i64>) -> bool
     ensures { result ≡ end_fits end }
 {
-    match end {
-        None => true,
-        Some(a) => (-SIDE_LIMIT <= a) & (a <= SIDE_LIMIT),
-    }
+    end.is_none_or(|a| (-SIDE_LIMIT <= a) & (a <= SIDE_LIMIT))
 }
 
 fn ends_ordered(low: Option<i64>, high: Option<i64>) -> bool
@@ -131,10 +112,6 @@ fn is_row_of(row: &RowDraft, size: usize) -> bool
 pub fn first_bad_row(size: usize, rows: &[RowDraft]) -> Option<usize>
     ensures { result ≡ bad_row size rows.now }
 {
-    for (i, row) in rows.iter().enumerate() {
-        if !is_row_of(row, size) {
-            return Some(i + 1);
-        }
-    }
-    None
+    let before = rows.iter().position(|row| !is_row_of(row, size))?;
+    Some(before + 1)
 }

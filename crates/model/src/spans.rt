@@ -36,41 +36,23 @@ pub fn first_bad_span(spans: &[Span]) -> Option<usize>
     ensures value { result ≡ bad_span spans.now }
     ensures law { BoxHasNoBadSpan }
 {
-    for (i, s) in spans.iter().enumerate() {
-        if !s.is_within(BOX_LIMIT) {
-            return Some(i + 1);
-        }
-    }
-    None
+    let before = spans.iter().position(|s| !s.is_within(BOX_LIMIT))?;
+    Some(before + 1)
 }
 
 /// The first nine spans of a run, and zeros where it has fewer.
 pub fn copy_of(spans: &[Span]) -> [Span; 9]
     ensures { result ≡ padded spans.now }
 {
-    let mut copy = [Span { low: 0, high: 0 }; 9];
+    let mut copy = [Span::default(); 9];
     let n = spans.len().min(9);
     copy[0..n].copy_from_slice(&spans[0..n]);
     copy
-}
-
-fn is_same(s: Span, t: Span) -> bool
-    ensures { result ≡ equal_spans s t }
-{
-    ((s.low <= t.low) & (t.low <= s.low)) & ((s.high <= t.high) & (t.high <= s.high))
 }
 
 /// Whether two runs hold the same spans.
 pub fn same_spans(a: &[Span], b: &[Span]) -> bool
     ensures { result ≡ same_box a.now b.now }
 {
-    if a.len() != b.len() {
-        return false;
-    }
-    for i in 0..a.len() {
-        if !is_same(a[i], b[i]) {
-            return false;
-        }
-    }
-    true
+    a == b
 }

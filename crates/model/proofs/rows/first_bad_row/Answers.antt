@@ -1,14 +1,19 @@
--- `first_bad_row` tells the place that `bad_row` tells.
-use Rattle.std.proofs.Common.{◌∙◌}
-use Rattle.model.specs.Drafts.{row_of}
-use Rattle.model.proofs.Firsts.{fails_here, fails_more, fails_none}
+-- The chain looks for a row that is not taken.
+use Rattle.std.proofs.Common.{◌≡◌, not, rules, tests}
+use Rattle.std.proofs.lemmas.Iterator.{YieldsList-from_slice}
+use Rattle.std.proofs.lemmas.Iterator.Search.{position_from_yields_List}
+use Rattle.model.specs.Drafts.{row_of, bad_row}
+use Rattle.model.proofs.Chains.{counted, first_counted}
 use Rattle.model.proofs.rows.first_bad_row.Goals as goal
+use Rattle.model.proofs.rows.first_bad_row.Goals.{After-position}
 
-pub returns-then-not-is_row_of : goal.returns-then-not-is_row_of
-returns-then-not-is_row_of c = fails_here (row_of c.args.size) _ _ _ c.loop-i-test.true c.if-not-is_row_of.ensures ∙ c.loop-i.invariant
+found : (c : After-position) → counted c.position.result ≡ bad_row c.args.size c.args.rows.now
+found c =
+    first_counted (row_of c.args.size) c.args.rows.now _
+    (position_from_yields_List (λ d. not (row_of c.args.size d)) _ _ _ c.position.ensures.ran (YieldsList-from_slice c.args.rows.now (search rules)) (λ x b q k. search (rules, tests)))
 
-pub loop-i-preserved : goal.loop-i-preserved
-loop-i-preserved c = fails_more (row_of c.args.size) _ _ _ c.loop-i-test.true c.if-not-is_row_of.ensures ∙ c.loop-i.invariant
+pub returns-in_err-before : goal.returns-in_err-before
+returns-in_err-before c = let f = found (goal.at.returns-in_err-before c).After-position in search rules
 
 pub returns : goal.returns
-returns c = fails_none (row_of c.args.size) _ _ c.loop-i-test.false ∙ c.loop-i.invariant
+returns c = let f = found (goal.at.returns c).After-position in search rules

@@ -1,9 +1,13 @@
--- `squares_fit` tells what `squares_fit` tells.
-use Rattle.model.proofs.Firsts.{every_more, every_not}
+-- The chain looks at the squares below the row's size.
+use Rattle.std.proofs.Common.{◌∙◌, take, rules, tests}
+use Rattle.std.proofs.lemmas.Iterator.{YieldsList-from_slice}
+use Rattle.std.proofs.lemmas.Iterator.Search.{all_from_yields_List}
+use Rattle.model.specs.Limits.{square_limit}
+use Rattle.model.specs.Boxes.{zero_span, ends, within}
+use Rattle.model.proofs.Chains.{all_of_first}
 use Rattle.model.proofs.rows.squares_fit.Goals as goal
 
-pub returns-then-not-is_within : goal.returns-then-not-is_within
-returns-then-not-is_within c = every_not _ _ _ c.loop-i-test.true c.if-not-is_within.ensures
-
-pub loop-i-preserved : goal.loop-i-preserved
-loop-i-preserved c = every_more c.loop-i.i _ c.loop-i.invariant c.if-not-is_within.ensures
+pub returns : goal.returns
+returns c =
+    all_from_yields_List (λ s. within square_limit (ends s)) _ _ _ c.all.ensures.ran (YieldsList-from_slice (take c.args.row.now.size c.args.row.now.squares) (search rules)) (λ x b q k. search (rules, tests))
+    ∙ all_of_first (λ s. within square_limit (ends s)) zero_span c.args.row.now.squares c.args.row.now.size (search rules)
