@@ -150,3 +150,26 @@ module _ (N : Narrowing) (X : List Span) (box : IsBox N.size X) where
         by Stood k = told_stood N X Y free (k.0 ∙ ap Some (sym k.1)) (sym (ap (λ V. same_box V X) k.1 ∙ same_box_same X))
         by Narrowed k = told_narrowed N X Y free k.0 (differs (same_box Y X) refl k.1)
         by Empty k = told_none N X Y free k.0 k.1
+
+-- ---- a cut in place, with a copy V of the run X from before
+
+module _ (N : Narrowing) (few : N.size ≤ most_coordinates) (X V Y : List Span) (passes : Ok tt ≡ checked N.size X) (copied : V ≡ padded X) where
+  -- the copy begins with the run
+  begins : take (length X - 0) V ≡ X
+  begins = copy_begins X V (box_checked N.size X few passes) copied
+
+  -- it is as long
+  pub long_enough : length X ≤ length V
+  long_enough = copy_long X V (box_checked N.size X few passes) copied
+
+  -- nothing is left, and the copy is put back
+  pub told_back : N.map X ≡ None → Y ≡ take (length X - 0) V → Told N X Y Empty
+  told_back e f = told_none N X Y (unrefused N.size X passes) e (f ∙ begins)
+
+  -- a box is left, the same as the copy
+  pub told_same : N.map X ≡ Some Y → true ≡ same_box Y (take (length X - 0) V) → Told N X Y Stood
+  told_same e f = told_stood N X Y (unrefused N.size X passes) e (f ∙ ap (same_box Y) begins)
+
+  -- a box is left, another than the copy
+  pub told_other : N.map X ≡ Some Y → false ≡ same_box Y (take (length X - 0) V) → Told N X Y Narrowed
+  told_other e f = told_narrowed N X Y (unrefused N.size X passes) e (f ∙ ap (same_box Y) begins)

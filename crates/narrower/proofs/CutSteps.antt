@@ -1,5 +1,5 @@
 -- One coordinate cut by a row, and then the next: how the code's parts come to the definitions.
-use Rattle.std.proofs.Common.{◌≡◌, ℕ, zero, suc, ◌+◌, ◌-◌, ◌<◌, ◌≤◌, Bool, true, false, cond, not, List, length, take, set, ℤ, neg_ℤ, ◌≤ℤ◌, Some, None, Ok, Option, sym, refl, ap, ◌∙◌, subst, ap₂, suc-add, zero-add, add-one, arith}
+use Rattle.std.proofs.Common.{◌≡◌, ℕ, zero, suc, ◌+◌, ◌-◌, ◌<◌, ◌≤◌, Bool, true, false, cond, not, List, set, ℤ, neg_ℤ, ◌≤ℤ◌, Some, None, Option, sym, refl, ap, ◌∙◌, subst, ap₂, suc-add, zero-add, add-one, arith}
 use lib.Signed.{le_z}
 use Rattle.std.proofs.lemmas.Int.{ints}
 use Rattle.numbers.specs.Ranges.{Range, Spans, held_range, plus, minus, without, over, holds_zero, off_zero, quotient_of, shared}
@@ -7,27 +7,21 @@ use Rattle.numbers.proofs.Held.{same_ends, held_range-small, minus-within, off_z
 use Rattle.numbers.proofs.Magnitudes.{abs_least}
 use Rattle.model.specs.declared.span.Span.{Span}
 use Rattle.model.specs.declared.held.HeldRow.{HeldRow}
-use Rattle.model.specs.Boxes.{span, at, OrBox, padded, same_box}
+use Rattle.model.specs.Boxes.{IsBox, span, at, OrBox}
 use Rattle.model.specs.Drafts.{drafted}
 use Rattle.model.proofs.RowLimits.{within_of_fits}
 use Rattle.model.specs.Rows.{Row, EndWithin}
-use Rattle.narrower.specs.declared.answer.Answer.TheVariants.{Stood, Narrowed, Empty}
-use Rattle.narrower.specs.declared.one_row.OneRow.{OneRow}
 use Rattle.narrower.specs.Maps.{meet_at, then}
 use Rattle.narrower.specs.OneRow.{total, factor_of, rest_of, absent_end, low_or_limit, high_or_limit, side_of, misses, narrow_at, up_to, one_row}
-use Rattle.narrower.specs.Answers.{refusal, checked}
-use Rattle.narrower.specs.Cuts.{one_row_meaning, Ready, with_of, quotient_at}
-use Rattle.narrower.proofs.Answering.{unrefused, box_of_unrefused, copy_begins, Told, told_none, told_stood, told_narrowed}
+use Rattle.narrower.specs.Cuts.{Ready, with_of, quotient_at}
 use Rattle.narrower.specs.RowTerms.{sum_size, rest_size_lem, total_size, factor_straight, total_split, rest_same}
 use Rattle.narrower.specs.Meetings.{lo, hi, met}
 use Rattle.narrower.specs.RowLaws.{left, narrowed, narrow_good}
 use Rattle.narrower.proofs.CodeRanges.{unheld}
 
--- a held row and a run that passes the check for its size are ready
-pub ready_checked : (h : HeldRow) (X : List Span) → Ok tt ≡ checked h.draft.size X → Ready (drafted h.draft) X
-ready_checked h X e =
-    let w = within_of_fits (drafted h.draft) h.fits in
-    record { limits = w; box = box_of_unrefused h.draft.size X w.few (unrefused h.draft.size X e) }
+-- a held row and a box of its size are ready
+pub ready_boxed : (h : HeldRow) (X : List Span) → IsBox h.draft.size X → Ready (drafted h.draft) X
+ready_boxed h X b = record { limits = within_of_fits (drafted h.draft) h.fits; box = b }
 
 -- ---- the terms without a coordinate
 
@@ -177,33 +171,9 @@ up_to_none r X k n h e = let f : (n - k) + k ≡ n = omega arith in subst (λ m.
 -- ---- all coordinates
 
 -- where the row's sum does not miss the right side, all coordinates are cut in turn
-one_row_all : (r : Row) (X : List Span) (t : Range) → t ≡ total r X → false ≡ misses r t → one_row r X ≡ up_to r r.size X
+pub one_row_all : (r : Row) (X : List Span) (t : Range) → t ≡ total r X → false ≡ misses r t → one_row r X ≡ up_to r r.size X
 one_row_all r X t e f = by (misses r (total r X)) (ap (misses r) (sym e) ∙ sym f)
   where
     by : (m : Bool) → m ≡ false → elim m [ true ↦ None | false ↦ up_to r r.size X ] ≡ up_to r r.size X
     by true g = cc
     by false g = refl
-
--- a run that passes the check for the row, its copy V, and the range t of the row's sum, which does not miss the right side
-module _ (o : OneRow) (X V : List Span) (t : Range) (passes : Ok tt ≡ checked o.row.draft.size X) (copied : V ≡ padded X)
-    (sum : t ≡ total (drafted o.row.draft) X) (unmissed : false ≡ misses (drafted o.row.draft) t) where
-  -- the run is not refused
-  pub free : refusal o.row.draft.size X ≡ None
-  free = unrefused o.row.draft.size X passes
-
-  -- the map is all coordinates in turn
-  map_is : one_row (drafted o.row.draft) X ≡ up_to (drafted o.row.draft) o.row.draft.size X
-  map_is = one_row_all (drafted o.row.draft) X t sum unmissed
-
-  -- nothing is left, and the copy is put back
-  pub row_told_none : (Y : List Span) → up_to (drafted o.row.draft) o.row.draft.size X ≡ None → Y ≡ take (length X - 0) V → Told (one_row_meaning o) X Y Empty
-  row_told_none Y e f = told_none (one_row_meaning o) X Y free (map_is ∙ e) (f ∙ copy_begins X V (ready_checked o.row X passes).box copied)
-
-  -- a box is left, the same as the copy or not
-  pub row_told_box : (b : Bool) (Y : List Span) → up_to (drafted o.row.draft) o.row.draft.size X ≡ Some Y → b ≡ same_box Y (take (length X - 0) V)
-      → Told (one_row_meaning o) X Y (cond b Stood Narrowed)
-  row_told_box b Y e f = by b (f ∙ ap (same_box Y) (copy_begins X V (ready_checked o.row X passes).box copied))
-    where
-      by : (b : Bool) → b ≡ same_box Y X → Told (one_row_meaning o) X Y (cond b Stood Narrowed)
-      by true g = told_stood (one_row_meaning o) X Y free (map_is ∙ e) g
-      by false g = told_narrowed (one_row_meaning o) X Y free (map_is ∙ e) g

@@ -1,5 +1,5 @@
 -- What a narrower answers of a run of spans, and what it leaves in the run.
-use Rattle.std.specs.Prelude.{ℕ, Bool, cond, ◌&&◌, List, length, Some, None, Ok, Err, Option, Result, ◌==◌, nat_lt}
+use Rattle.std.specs.Prelude.{◌≡◌, ℕ, Bool, cond, ◌&&◌, List, length, Some, None, Ok, Err, Option, Result, ◌==◌, nat_lt}
 use Rattle.model.specs.declared.span.Span.{Span}
 use Rattle.model.specs.Boxes.{bad_span, same_box}
 use Rattle.narrower.specs.declared.answer.Answer.{Answer}
@@ -55,3 +55,8 @@ answer_of N X = answered (refusal N.size X) (N.map X) X
 -- what a narrower leaves in a run
 abbrev pub after_of : Narrowing → List Span → List Span
 after_of N X = kept (refusal N.size X) (N.map X) X
+
+-- what cutting a box in place hands back where the map gives o: none, or that the box Y is left
+abbrev pub CutTo : Option (List Span) → Option (Unit {0}) → List Span → Type 0
+CutTo o None Y = o ≡ None
+CutTo o (Some u) Y = o ≡ Some Y

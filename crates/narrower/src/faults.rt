@@ -242,9 +242,8 @@ impl PlacementFault {
         match self {
             PlacementFault::Size => 11,
             PlacementFault::BadSpan(_) => 12,
-            PlacementFault::TooManyRows
-            | PlacementFault::BadRow(_)
-            | PlacementFault::NoSuchRow => 13,
+            PlacementFault::TooManyRows | PlacementFault::BadRow(_) | PlacementFault::NoSuchRow =>
+                13,
             PlacementFault::OtherSize => 14,
             PlacementFault::NotMade => 31,
             PlacementFault::AlreadyMade => 32,

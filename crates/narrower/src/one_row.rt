@@ -10,12 +10,11 @@ ghost use Rattle.narrower.specs.RowLaws.{one_row-lawful};
 
 use crate::answer::Answer;
 use crate::faults::NarrowFault;
-use crate::interface::{Narrower, check_run};
+use crate::interface::{Cutter, Narrower, narrow_by_cuts};
 use crate::sums::{row_factor, row_rest, row_total, terms_with};
 use model::draft::RowDraft;
 use model::held::HeldRow;
 use model::span::Span;
-use model::spans::{copy_of, same_spans};
 use numbers::ranges::{Range, difference_range, meeting, quotient_range, sum_range};
 
 /// What an absent end of a right side counts for, beyond every sum that a row can have on a box: 2^45.
@@ -109,32 +108,36 @@ fn narrow_all(row: &RowDraft, spans: &mut [Span], whole: Range) -> bool
     true
 }
 
+impl Cutter for OneRow {
+    ghost meaning = { one_row_meaning };
+
+    ghost few = { λ n. (within_of_fits (drafted n.row.draft) n.row.fits).few };
+
+    fn box_size(&self) -> usize {
+        self.row.draft.size
+    }
+
+    fn cut(&self, spans: &mut [Span]) -> Option<()> {
+        let row = &self.row.draft;
+        let sum = row_total(row, spans);
+        if is_missed(row, sum) || !narrow_all(row, spans, sum) {
+            None
+        } else {
+            Some(())
+        }
+    }
+}
+
 impl Narrower for OneRow {
     ghost means = { one_row_meaning };
 
     ghost lawful = { λ n. one_row-lawful _ (within_of_fits _ n.row.fits) };
 
     fn size(&self) -> usize {
-        self.row.draft.size
+        self.box_size()
     }
 
     fn narrow(&mut self, spans: &mut [Span]) -> Result<Answer, NarrowFault> {
-        let row = &self.row.draft;
-        check_run(row.size, spans)?;
-        let sum = row_total(row, spans);
-        if is_missed(row, sum) {
-            return Ok(Answer::Empty);
-        }
-        let n = spans.len();
-        let was = copy_of(spans);
-        if !narrow_all(row, spans, sum) {
-            spans.copy_from_slice(&was[0..n]);
-            return Ok(Answer::Empty);
-        }
-        if same_spans(spans, &was[0..n]) {
-            Ok(Answer::Stood)
-        } else {
-            Ok(Answer::Narrowed)
-        }
+        narrow_by_cuts(self, spans)
     }
 }
