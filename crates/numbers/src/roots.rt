@@ -16,12 +16,5 @@ pub fn root_up(v: u64) -> u64
     if square == 0 {
         return 0;
     }
-    let mut root: u64 = 0;
-    for k in (0..20u32).rev() {
-        let next = root + (1u64 << k);
-        if next * next < square {
-            root = next;
-        }
-    }
-    root + 1
+    (square - 1).isqrt() + 1
 }

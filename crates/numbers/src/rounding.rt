@@ -12,11 +12,7 @@ pub fn floor_div(a: i64, b: i64) -> Option<i64>
     ensures value { result ≡ down_quotient a b }
     ensures law { DownIsGreatestNotAbove }
 {
-    if b == 0 {
-        None
-    } else {
-        Some(quotient_down(a, b))
-    }
+    (b != 0).then(|| quotient_down(a, b))
 }
 
 /// The least number that is not below `a / b`; none where `b` is 0.
@@ -24,11 +20,7 @@ pub fn ceil_div(a: i64, b: i64) -> Option<i64>
     ensures value { result ≡ up_quotient a b }
     ensures law { UpIsLeastNotBelow }
 {
-    if b == 0 {
-        None
-    } else {
-        Some(quotient_up(a, b))
-    }
+    (b != 0).then(|| quotient_up(a, b))
 }
 
 /// The greatest number that is not above `a` over a positive number.
