@@ -1,8 +1,5 @@
 -- The tables that a budget is computed from: sums over the first steps, and how far from 0 what a step adds is.
-use Rattle.std.proofs.Common.{◌≡◌, ℕ, zero, suc, ◌+◌, ◌*◌, ◌<◌, ◌≤◌, List, [], ◌∷◌, length, get_or, take, ℤ, pos, ◌+ℤ◌, ◌*ℤ◌, ◌≤ℤ◌, sym, refl, ap, ◌∙◌, subst, arith}
-use Rattle.std.specs.List.{AllByRecursion}
-use Rattle.std.proofs.ByRecursion.{All-get_or}
-use Rattle.std.proofs.lemmas.List.{get_or-take, length-take-le}
+use Rattle.std.proofs.Common.{◌≡◌, ℕ, zero, suc, ◌+◌, ◌*◌, ◌<◌, ◌≤◌, List, [], ◌∷◌, length, get_or, take, ℤ, pos, ◌+ℤ◌, ◌*ℤ◌, ◌≤ℤ◌, refl, ap, ◌∙◌, arith}
 use Rattle.std.proofs.lemmas.Int.{ints}
 use Rattle.numbers.specs.Sums.{sum}
 use Rattle.numbers.specs.Magnitudes.{abs}
@@ -13,10 +10,10 @@ use Rattle.factoring.specs.declared.tables.StepTable.{StepTable}
 use Rattle.factoring.specs.Factoring.{entry_limit}
 use Rattle.factoring.specs.Sizes.{singles_bound}
 use Rattle.factoring.specs.Steps.{Step}
-use Rattle.factoring.specs.Stored.{step_at, steps_at}
+use Rattle.factoring.specs.Stored.{Parts, step_at, steps_at}
 use Rattle.certificate.specs.Charges.{step_charge}
 use Rattle.certificate.specs.Budgets.{step_gain, steps_sum}
-use Rattle.certificate.specs.Ready.{SmallGain, SmallCharge}
+use Rattle.certificate.specs.Ready.{SmallGain, SmallCharge, SmallParts, mixed_charge}
 use Rattle.certificate.proofs.ChargeSizes.{pairs_charge_size, singles_charge_size, slacks_charge_size, single_term_size}
 use Rattle.certificate.proofs.SmallNumbers.{Small, mul_small, add_small, scale_small}
 
@@ -25,12 +22,6 @@ use Rattle.certificate.proofs.SmallNumbers.{Small, mul_small, add_small, scale_s
 -- what is read beyond the end of a table
 abbrev pub no_step : StepTable
 no_step = record { axis = 0; pivot = pos 0; slopes = []; shift = pos 0; slacks = []; slack0 = (pos 0, pos 0); gaps = []; gaps0 = [] }
-
--- what holds of the first n of a run holds of each
-pub of_taken : (P : StepTable → Type 0) (n : ℕ) (xs : List StepTable) → n ≤ length xs → AllByRecursion P (take n xs) → (j : ℕ) → j < n → P (get_or xs j no_step)
-of_taken P n xs few h j l =
-    let e = length-take-le n xs few in
-    subst P (get_or-take n xs j no_step l) (All-get_or P (take n xs) j no_step (omega arith) h)
 
 -- one more step in a sum over the first ones
 steps_more : (f : Step → ℤ) (xs : List StepTable) (k : ℕ) → k < length xs → steps_sum (steps_at (take (suc k) xs)) f ≡ steps_sum (steps_at (take k xs)) f +ℤ f (step_at (get_or xs k no_step))
@@ -42,10 +33,6 @@ steps_more f (x ∷ xs) (suc k) l = let e = steps_more f xs k (omega arith) in o
 pub steps_sum_lem : (f : Step → ℤ) (xs : List StepTable) (n : ℕ) → n ≤ length xs → steps_sum (steps_at (take n xs)) f ≡ sum n (λ k. f (step_at (get_or xs k no_step)))
 steps_sum_lem f xs zero l = refl
 steps_sum_lem f xs (suc n) l = steps_more f xs n (omega arith) ∙ ap (λ (z : ℤ). z +ℤ f (step_at (get_or xs n no_step))) (steps_sum_lem f xs n (omega arith))
-
--- the sum that a loop has at its end
-pub steps_all : (t : ℤ) (f : Step → ℤ) (xs : List StepTable) (k n : ℕ) → t ≡ sum k (λ j. f (step_at (get_or xs j no_step))) → k ≤ n → n ≤ k → n ≤ length xs → t ≡ steps_sum (steps_at (take n xs)) f
-steps_all t f xs k n e h l few = let q : k ≡ n = omega arith in e ∙ ap (λ m. sum m (λ j. f (step_at (get_or xs j no_step)))) q ∙ sym (steps_sum_lem f xs n few)
 
 -- ---- sizes
 
@@ -64,6 +51,10 @@ rest_size = 2305843009213693952
 -- how much one step charges
 abbrev pub charge_size : ℕ
 charge_size = 2 * (9 * (8192 * 16777216) + singles_bound 9 * 4096 + 36 * (1 * 16777216) + 9 * (1 * 4096))
+
+-- how much pairs and singles of a form charge
+abbrev pub mixed_size : ℕ
+mixed_size = 36 * (entry_limit * 16777216) + 9 * (singles_bound 9 * 4096)
 
 -- a number that is itself
 pub itself : (z : ℤ) (b : ℕ) → abs z ≤ℤ pos b → Small z z b
@@ -85,3 +76,7 @@ module _ {n : ℕ} {X : List Span} (o : IsBox n X) where
       (add_small (itself _ _ (slacks_charge_size n 8192 X t.axis t.slack o s.axis s.slacks)) (itself _ _ (single_term_size n X o t.slack0 (singles_bound 9) s.slack0 t.axis s.axis).0))
       (itself _ _ (pairs_charge_size n 1 X t.gap o s.gaps)))
       (itself _ _ (singles_charge_size n 1 X t.gap0 o s.gaps0)))).size
+
+  -- what pairs and singles charge on a box
+  pub mixed_size_lem : (p : Parts) → SmallParts n entry_limit (singles_bound 9) p → abs (mixed_charge n X p) ≤ℤ pos mixed_size
+  mixed_size_lem p s = (add_small (itself _ _ (pairs_charge_size n entry_limit X p.pairs o s.pairs)) (itself _ _ (singles_charge_size n (singles_bound 9) X p.singles o s.singles))).size

@@ -1,23 +1,26 @@
 -- The ranges that cut the coordinates, once it is known that 64 bits hold their ends.
-use Rattle.std.proofs.Common.{◌≡◌, ℕ, ◌+◌, ◌*◌, ◌<◌, ◌≤◌, min, List, ℤ, pos, negsuc, ◌+ℤ◌, ◌-ℤ◌, ◌*ℤ◌, neg_ℤ, nat_abs, ◌≤ℤ◌, ◌<ℤ◌, sym, refl, ap, ◌∙◌, ap₂, arith, w64, SFits}
+use Rattle.std.proofs.Common.{◌≡◌, ℕ, ◌+◌, ◌*◌, ◌<◌, ◌≤◌, min, zero, suc, List, map, length, take, fold, add-one, ℤ, pos, negsuc, ◌+ℤ◌, ◌-ℤ◌, ◌*ℤ◌, neg_ℤ, nat_abs, ◌≤ℤ◌, sym, refl, ap, ◌∙◌, ap₂, arith, w64, SFits}
 use borrow.Author.Differences.{ints}
-use Rattle.std.specs.Int.{int_min}
-use Rattle.std.proofs.lemmas.Int.{clamps}
+use Rattle.std.specs.List.{zip}
+use Rattle.std.proofs.lemmas.List.{get_or-map, length-map, take_all}
+use Rattle.std.proofs.lemmas.List.Sums.{fold_more}
+use Rattle.std.proofs.lemmas.Slice.Zip.{get_or-zip, length-zip}
 use Rattle.numbers.specs.Division.{down, up}
 use Rattle.numbers.specs.Magnitudes.{abs}
 use Rattle.numbers.specs.Roots.{root_limit, root_up}
 use Rattle.numbers.specs.Ranges.{Range, Spans, held_range, just, plus, minus, times, sum_r}
-use Rattle.numbers.proofs.Order.{lin, le_trans, le_of_eq, cancel_right}
+use Rattle.numbers.proofs.Order.{lin}
 use Rattle.numbers.proofs.Ring.{◌≐◌, ◌⊗◌, #, neg, ring}
-use Rattle.numbers.proofs.Division.{up_high}
 use Rattle.numbers.proofs.Magnitudes.{abs-over, abs_least, times-within}
 use Rattle.numbers.proofs.Held.{same_ends, held_range-small, minus-within, sum_r_more}
 use Rattle.numbers.proofs.SquareRoots.{root_small}
 use Rattle.model.specs.declared.span.Span.{Span}
 use Rattle.model.specs.Limits.{most_coordinates, box_limit}
-use Rattle.model.specs.Boxes.{at}
+use Rattle.model.specs.Boxes.{at, ends, zero_span}
 use Rattle.model.proofs.Boxes.{box_within}
 use Rattle.narrower.specs.RowTerms.{within_size, few_size}
+use Rattle.factoring.specs.declared.tables.StepTable.{StepTable}
+use Rattle.factoring.specs.Stored.{step_at}
 use Rattle.factoring.specs.Steps.{Step}
 use Rattle.certificate.specs.Budgets.{ratio_of, root_of}
 use Rattle.certificate.specs.Maps.{slopes_range, cut_of}
@@ -54,29 +57,41 @@ module _ {n : ℕ} {s : Step} {X : List Span} (q : Cuttable n s X) where
   pub slopes_size : Spans (slopes_range n s X) (most_coordinates * slope_size)
   slopes_size = sum_size_lem n (omega arith)
 
--- ---- the root
+-- a slope times the coordinate beside it, as 64 bits hold it
+abbrev pub slope_by : ℤ × Span → Range
+slope_by p = held_range (times (just p.0) (ends p.1))
 
--- a budget that is not negative, over a pivot, rounded up, is not negative
-up_from_0 : (β p : ℤ) → pos 0 ≤ℤ β → pos 0 <ℤ p → pos 0 ≤ℤ up β p
-up_from_0 β p h k =
-    let a = up_high β k in
-    cancel_right {a = pos 0} {b = up β p} {c = p} (le_trans (le_of_eq (ring 1 (λ p. # 0 ⊗ p ≐ # 0) refl p)) (le_trans h a)) k
+-- the slopes of a table, each times its coordinate, added as a chain of iterators adds them
+module _ (t : StepTable) (X : List Span) (q : Cuttable (length X) (step_at t) X) (many : length X ≤ length t.slopes) where
+  abbrev terms : List Range
+  terms = map slope_by (zip t.slopes X)
+
+  terms_long : length terms ≡ length X
+  terms_long = length-map (zip t.slopes X) slope_by ∙ length-zip t.slopes X ∙ omega arith
+
+  first_added : (k : ℕ) → k ≤ length X → fold (λ a r. held_range (plus a r)) (pos 0, pos 0) (take k terms) ≡ sum_r k (slope_term (step_at t) X)
+  first_added zero l = refl
+  first_added (suc k) l =
+      let e = get_or-map slope_by (zip t.slopes X) k (pos 0, zero_span) (pos 0, pos 0) (omega (arith, length-zip t.slopes X)) ∙ ap slope_by (get_or-zip t.slopes X k (pos 0, zero_span) (omega arith) (omega arith)) in
+      rw (← add-one k)
+      (slope_more q k (omega arith) _ _ _ _ (first_added k (omega arith)) refl e (fold_more (λ a r. held_range (plus a r)) (pos 0, pos 0) terms k (pos 0, pos 0) (omega (arith, terms_long)))
+      ∙ sum_r_more k (slope_term (step_at t) X))
+
+  -- all of them
+  pub slopes_added : fold (λ a r. held_range (plus a r)) (pos 0, pos 0) terms ≡ slopes_range (length X) (step_at t) X
+  slopes_added = ap (fold (λ a r. held_range (plus a r)) (pos 0, pos 0)) (sym (take_all (length X) terms (omega (arith, terms_long)))) ∙ first_added (length X) (omega arith)
+
+-- ---- the root
 
 -- the root is within 2^20
 pub root_size : (β p : ℤ) → (pos 0 ≤ℤ root_of β p) × (root_of β p ≤ℤ pos 1048576)
 root_size β p = let h = root_small (256 * ratio_of β p) (omega arith) in (omega (arith, ints), omega (arith, ints))
 
--- the quotient u, the ratio m and the root r of the code
-module _ (β p u m : ℤ) (h : pos 0 ≤ℤ β) (k : pos 0 <ℤ p) (quotient : u ≡ up β p) (ratio : m ≡ int_min u (pos 2147483648)) where
-  -- the ratio is that of the definition
-  ratio_is : nat_abs m ≡ ratio_of β p
-  ratio_is = let z = up_from_0 β p h k in rw (ratio, quotient) (omega (arith, ints, clamps))
-
-  -- so is the root
-  pub root_is : (r : ℕ) → r ≡ root_up (min (256 * nat_abs m) root_limit) → pos r ≡ root_of β p
-  root_is r e =
-      let f : min (256 * nat_abs m) root_limit ≡ 256 * ratio_of β p = rw ratio_is (omega arith) in
-      ap pos (e ∙ ap root_up f)
+-- the root of the code is that of the definition
+pub root_is : (β p u : ℤ) (r : ℕ) → u ≡ up β p → r ≡ root_up (min (256 * min (nat_abs u) 2147483648) root_limit) → pos r ≡ root_of β p
+root_is β p u r e f =
+    let g : min (256 * ratio_of β p) root_limit ≡ 256 * ratio_of β p = omega arith in
+    ap pos (f ∙ ap (λ z. root_up (min (256 * min (nat_abs z) 2147483648) root_limit)) e ∙ ap root_up g)
 
 -- ---- the cut
 

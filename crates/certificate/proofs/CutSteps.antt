@@ -1,8 +1,7 @@
 -- One step's cut met with a span, and the steps from the last to the first.
-use Rattle.std.proofs.Common.{◌≡◌, ℕ, zero, suc, ◌-◌, ◌<◌, ◌≤◌, Bool, true, false, cond, List, [], ◌∷◌, length, get_or, take, drop, set, ℤ, pos, ◌≤ℤ◌, Some, None, Option, sym, refl, ap, ◌∙◌, subst, arith, length-take-le, drop-cons, get_or-take}
+use Rattle.std.proofs.Common.{◌≡◌, ℕ, suc, Bool, true, false, cond, List, [], ◌∷◌, ◌++◌, length, take, set, ℤ, pos, ◌≤ℤ◌, Some, None, Option, sym, refl, ap, ◌∙◌, subst}
 use lib.Signed.{le_z}
 use Rattle.std.specs.List.{AllByRecursion}
-use Rattle.std.proofs.ByRecursion.{All-get_or}
 use Rattle.numbers.specs.Magnitudes.{abs}
 use Rattle.numbers.specs.Ranges.{Range, shared}
 use Rattle.model.specs.declared.span.Span.{Span}
@@ -19,7 +18,7 @@ use Rattle.factoring.specs.Made.{taken_of}
 use Rattle.factoring.proofs.StepSizes.{factors_stay_small, small_of_fits}
 use Rattle.factoring.proofs.StoredTests.{AlikeStep, AlikeSteps, decides_below}
 use Rattle.certificate.specs.Maps.{cut_of, narrow_by, backward}
-use Rattle.certificate.specs.Cutting.{SmallSquare}
+use Rattle.certificate.specs.Cutting.{SmallSquare, Cuttable}
 use Rattle.certificate.proofs.StoredBudgets.{standing}
 
 -- ---- one cut
@@ -85,54 +84,42 @@ all_small f =
 
 -- ---- from the last step to the first
 
-module _ (n : ℕ) (β : ℤ) (X : List Span) where
-  -- the steps from k on
-  abbrev pub from : ℕ → List StepTable → Option (List Span)
-  from k ts = backward n β (steps_at (drop k ts)) X
+module _ (n : ℕ) (β : ℤ) (Y : List Span) (t : StepTable) where
+  -- the last of some steps gives Z, and the others go on from it
+  pub back_some : (Z : List Span) → narrow_by n β (step_at t) Y ≡ Some Z → (ts : List StepTable) → backward n β (steps_at (ts ++ t ∷ [])) Y ≡ backward n β (steps_at ts) Z
+  back_some Z e [] = e
+  back_some Z e (u ∷ ts) = ap (λ o. then o (narrow_by n β (step_at u))) (back_some Z e ts)
 
-  -- past the last there is none to narrow by
-  pub from_end : (k : ℕ) (ts : List StepTable) → length ts ≤ k → from k ts ≡ Some X
-  from_end zero [] h = refl
-  from_end zero (t ∷ ts) h = absurd (omega arith)
-  from_end (suc k) [] h = refl
-  from_end (suc k) (t ∷ ts) h = from_end k ts (omega arith)
+  -- or it leaves nothing
+  pub back_none : narrow_by n β (step_at t) Y ≡ None → (ts : List StepTable) → backward n β (steps_at (ts ++ t ∷ [])) Y ≡ None
+  back_none e [] = e
+  back_none e (u ∷ ts) = ap (λ o. then o (narrow_by n β (step_at u))) (back_none e ts)
 
-  -- none stays none
-  pub from_none : (k : ℕ) (ts : List StepTable) → from k ts ≡ None → backward n β (steps_at ts) X ≡ None
-  from_none zero ts e = e
-  from_none (suc k) [] e = e
-  from_none (suc k) (t ∷ ts) e = ap (λ o. then o (narrow_by n β (step_at t))) (from_none k ts e)
+-- what holds of each of some and of one more holds of the one and of each of the others
+split_last : {A : Type 0} (P : A → Type 0) (xs : List A) (x : A) → AllByRecursion P (xs ++ x ∷ []) → AllByRecursion P xs × P x
+split_last P [] x h = (tt, h.0)
+split_last P (y ∷ xs) x h = let r = split_last P xs x h.1 in ((h.0, r.0), r.1)
 
-  -- one more step
-  pub from_more : (k : ℕ) (ts : List StepTable) (Y : List Span) (d : StepTable) (o : Option (List Span)) → 0 < k → k - 1 < length ts → from k ts ≡ Some Y
-      → narrow_by n β (step_at (get_or ts (k - 1) d)) Y ≡ o → from (k - 1) ts ≡ o
-  from_more k ts Y d o p l e f =
-      let q : suc (k - 1) ≡ k = omega arith in
-      ap (λ ss. backward n β (steps_at ss) X) (drop-cons ts (k - 1) d l)
-      ∙ ap (λ m. then (from m ts) (narrow_by n β (step_at (get_or ts (k - 1) d)))) q
-      ∙ ap (λ y. then y (narrow_by n β (step_at (get_or ts (k - 1) d)))) e ∙ f
+-- what is left to do of the steps of a factoring that began at the box X: they are small, the box Y is one, and from it they give what all give from X
+pub record ToDo (f : Factored) (β : ℤ) (X Y : List Span) (ts : List StepTable) : Type 0 where
+  pub small : AllByRecursion (λ t. SmallSquare f.sums.row.size (step_at t)) ts
+  pub box : IsBox f.sums.row.size Y
+  pub same : backward f.sums.row.size β (steps_at ts) Y ≡ backward f.sums.row.size β (steps_at (take f.count f.steps)) X
 
--- the steps of a factoring, at least as many tables as are taken, and the steps' code at place k
-module _ (f : Factored) (many : f.count ≤ length f.steps) where
-  -- as many steps are held as are taken
-  taken_long : length (take f.count f.steps) ≡ f.count
-  taken_long = length-take-le f.count f.steps many
+module _ {f : Factored} {β : ℤ} {X Y : List Span} (ts : List StepTable) (t : StepTable) (w : ToDo f β X Y (ts ++ t ∷ [])) where
+  parts : AllByRecursion (λ t. SmallSquare f.sums.row.size (step_at t)) ts × SmallSquare f.sums.row.size (step_at t)
+  parts = split_last (λ t. SmallSquare f.sums.row.size (step_at t)) ts t w.small
 
-  -- the step at a place is small
-  pub small_at : (k : ℕ) (d : StepTable) → k < f.count → SmallSquare f.sums.row.size (step_at (get_or f.steps k d))
-  small_at k d l =
-      subst (λ t. SmallSquare f.sums.row.size (step_at t)) (get_or-take f.count f.steps k d l)
-      (All-get_or (λ t. SmallSquare f.sums.row.size (step_at t)) (take f.count f.steps) k d (omega (arith, taken_long)) (all_small f))
+  -- the last one cuts the box
+  pub next_cuts : Cuttable (length Y) (step_at t) Y
+  next_cuts = subst (λ n. Cuttable n (step_at t) Y) (sym w.box.long) (record { step = parts.1; box = w.box })
 
-  -- what a step at a place gives of the box Y that is left so far
-  module _ (β : ℤ) (X Y : List Span) (k : ℕ) (d : StepTable) (o : Option (List Span)) (box : IsBox f.sums.row.size Y) (above : 0 < k) (below : k ≤ f.count)
-      (step : narrow_by (length Y) β (step_at (get_or f.steps (k - 1) d)) Y ≡ o) where
-    -- at the size of the factoring
-    pub at_size : narrow_by f.sums.row.size β (step_at (get_or f.steps (k - 1) d)) Y ≡ o
-    at_size = ap (λ n. narrow_by n β (step_at (get_or f.steps (k - 1) d)) Y) (sym box.long) ∙ step
+  -- where it leaves nothing, nothing is left of all
+  pub next_none : narrow_by (length Y) β (step_at t) Y ≡ None → backward f.sums.row.size β (steps_at (take f.count f.steps)) X ≡ None
+  next_none e = sym w.same ∙ back_none f.sums.row.size β Y t (ap (λ n. narrow_by n β (step_at t) Y) (sym w.box.long) ∙ e) ts
 
-    -- one more step
-    pub back_more : from f.sums.row.size β X k (take f.count f.steps) ≡ Some Y → from f.sums.row.size β X (k - 1) (take f.count f.steps) ≡ o
-    back_more e =
-        from_more f.sums.row.size β X k (take f.count f.steps) Y d o above (omega (arith, taken_long)) e
-        (ap (λ t. narrow_by f.sums.row.size β (step_at t) Y) (get_or-take f.count f.steps (k - 1) d (omega arith)) ∙ at_size)
+  -- else the others are left to do
+  pub next_some : (Z : List Span) → narrow_by (length Y) β (step_at t) Y ≡ Some Z → ToDo f β X Z ts
+  next_some Z e =
+      let g : narrow_by f.sums.row.size β (step_at t) Y ≡ Some Z = ap (λ n. narrow_by n β (step_at t) Y) (sym w.box.long) ∙ e in
+      record { small = parts.0; box = box_after β parts.1 w.box g; same = sym (back_some f.sums.row.size β Y t Z g ts) ∙ w.same }

@@ -6,10 +6,11 @@ pub mod StepCharges
 pub mod OrderLengths
 pub mod BudgetSizes
 pub mod DominantChecks
-mod ChargeSteps
 mod CutRanges
 mod CutSteps
 mod SmallNumbers
+mod FewSums
+mod HeldTerms
 mod BudgetTables
 pub mod StoredBudgets
 mod Telling

@@ -1,10 +1,15 @@
 -- Numbers that the code holds: what each stands for, and how far from 0 it is.
-use Rattle.std.proofs.Common.{◌≡◌, ℕ, ◌+◌, ◌*◌, ◌≤◌, ℤ, pos, ◌+ℤ◌, ◌-ℤ◌, ◌*ℤ◌, ◌≤ℤ◌, ap, ◌∙◌, ap₂, w64, SFits, to_z, of_z}
-use Rattle.std.proofs.lemmas.Int.{to_z-of_z}
+use Rattle.std.proofs.Common.{◌≡◌, ℕ, ◌+◌, ◌*◌, ◌≤◌, ℤ, pos, negsuc, ◌+ℤ◌, ◌-ℤ◌, ◌*ℤ◌, ◌≤ℤ◌, ap, ◌∙◌, ap₂, arith, w64, SFits, to_z, of_z}
+use Rattle.std.proofs.lemmas.Int.{ints, to_z-of_z}
 use Rattle.numbers.specs.Magnitudes.{abs}
 use Rattle.numbers.proofs.Magnitudes.{scaled_within, two_within, two_added}
 use Rattle.numbers.proofs.Held.{two_apart}
-use Rattle.certificate.proofs.ChargeSteps.{fits_small}
+
+-- a number nearer to 0 than 2^63 fits
+pub fits_small : (z : ℤ) (b : ℕ) → abs z ≤ℤ pos b → b ≤ 9223372036854775807 → SFits w64 z
+unfolding abs
+fits_small (pos z) b h k = record { sfits = omega (arith, ints) }
+fits_small (negsuc z) b h k = record { sfits = omega (arith, ints) }
 
 -- v is z, which is within b of 0
 pub record Small (v z : ℤ) (b : ℕ) : Type 0 where
@@ -27,9 +32,17 @@ kept {v} s k = record { value = to_z-of_z w64 v (small_fits s k) ∙ s.value; si
 pub add_small : {u v y z : ℤ} {a b : ℕ} → Small u y a → Small v z b → Small (u +ℤ v) (y +ℤ z) (a + b)
 add_small {u} {v} {y} {z} {a} {b} s t = record { value = ap₂ ◌+ℤ◌ s.value t.value; size = two_added y z a b s.size t.size }
 
+-- a sum of two numbers that 64 bits hold
+pub plus : {u v y z : ℤ} {a b : ℕ} → Small u y a → Small v z b → a ≤ 9223372036854775807 → b ≤ 9223372036854775807 → Small (back u +ℤ back v) (y +ℤ z) (a + b)
+plus s t k l = add_small (kept s k) (kept t l)
+
 -- a difference
 pub sub_small : {u v y z : ℤ} {a b : ℕ} → Small u y a → Small v z b → Small (u -ℤ v) (y -ℤ z) (a + b)
 sub_small {u} {v} {y} {z} {a} {b} s t = record { value = ap₂ ◌-ℤ◌ s.value t.value; size = two_apart y z a b s.size t.size }
+
+-- a difference of two numbers that 64 bits hold
+pub minus : {u v y z : ℤ} {a b : ℕ} → Small u y a → Small v z b → a ≤ 9223372036854775807 → b ≤ 9223372036854775807 → Small (back u -ℤ back v) (y -ℤ z) (a + b)
+minus s t k l = sub_small (kept s k) (kept t l)
 
 -- a product
 pub mul_small : {u v y z : ℤ} {a b : ℕ} → Small u y a → Small v z b → Small (u *ℤ v) (y *ℤ z) (a * b)

@@ -1,5 +1,5 @@
 -- What the invariants of a stored factoring tell of its tables: they are small, and they are those of the factoring by definition.
-use Rattle.std.proofs.Common.{◌≡◌, ℕ, suc, ◌+◌, ◌*◌, ◌≤◌, List, [], ◌∷◌, length, take, ℤ, pos, Ok, Result, sym, ap, ◌∙◌, subst, arith, length-take}
+use Rattle.std.proofs.Common.{◌≡◌, ℕ, suc, ◌+◌, ◌*◌, ◌≤◌, List, [], ◌∷◌, length, take, ℤ, pos, Some, None, Ok, Option, Result, unwrap_or, sym, refl, ap, ◌∙◌, subst, arith, length-take, lit≤}
 use Rattle.numbers.specs.Ranges.{Range, Spans}
 use Rattle.numbers.proofs.Order.{lin}
 use Rattle.numbers.proofs.Magnitudes.{abs_least, at_most, zero-within}
@@ -69,11 +69,11 @@ like_rest {n} {s} {p} {h} a o few = record {
   singles = λ j l. like_within (a.singles j l) (just-within (h.g j) (singles_bound 9) (at_most (h.g j) (singles_bound s) (singles_bound 9) (o.singles j l) (singles_bound_mono s 9 few)));
 }
 
-like_leftovers : {r : Row} {p : Parts} → AlikeParts r.size p (leftover_parts r) → SmallSums r → SmallParts r.size (sum_limit + 1) (single_sum_limit + 1) p
+like_leftovers : {r : Row} {p : Parts} → AlikeParts r.size p (leftover_parts r) → SmallSums r → SmallParts r.size entry_limit (singles_bound 9) p
 like_leftovers {r} {p} a o = record {
-  squares = λ j l. like_within (a.squares j l) (just-within (pos 0) (sum_limit + 1) (zero-within (sum_limit + 1)));
-  pairs = λ j k l m. like_within (a.pairs j k l m) (leftover-within (r.pairs j k) sum_limit (o.pairs j k l m));
-  singles = λ j l. like_within (a.singles j l) (leftover-within (r.singles j) single_sum_limit (o.singles j l));
+  squares = λ j l. like_within (a.squares j l) (just-within (pos 0) entry_limit (zero-within entry_limit));
+  pairs = λ j k l m. like_within (a.pairs j k l m) (spans_more _ (sum_limit + 1) entry_limit (leftover-within (r.pairs j k) sum_limit (o.pairs j k l m)) (lit≤ tt));
+  singles = λ j l. like_within (a.singles j l) (spans_more _ (single_sum_limit + 1) (singles_bound 9) (leftover-within (r.singles j) single_sum_limit (o.singles j l)) (lit≤ tt));
 }
 
 -- ---- a stored factoring
@@ -116,7 +116,7 @@ module _ (f : Factored) where
   small_rest = like_rest standing.3 sizes.2 few_taken
 
   -- and those of the leftovers
-  pub small_leftovers : SmallParts row_of.size (sum_limit + 1) (single_sum_limit + 1) (parts_at f.leftovers)
+  pub small_leftovers : SmallParts row_of.size entry_limit (singles_bound 9) (parts_at f.leftovers)
   small_leftovers = like_leftovers {r = row_of} leftover_parts_lem (small_of_fits row_of f.sums.fits)
 
   -- there is one such factoring
@@ -125,6 +125,11 @@ module _ (f : Factored) where
     where
       same : {E : Type 0} (x : Result Factors E) (g h : Factors) → x ≡ Ok g → x ≡ Ok h → g ≡ h
       same x g h d e = cc
+
+-- 0 for an end that is absent
+pub or_zero_is : (o : Option ℤ) → unwrap_or o (pos 0) ≡ or_zero o
+or_zero_is None = refl
+or_zero_is (Some a) = refl
 
 -- ---- the parts of its budget on a box, each with its size
 

@@ -82,10 +82,10 @@ fn narrow_with(f: &Factored, spans: &mut [Span]) -> Result<Answer, NarrowFault>
     }
     let n = spans.len();
     let was = copy_of(spans);
-    if !narrow_back(f, spans, budget) {
+    let Some(()) = narrow_back(f, spans, budget) else {
         spans.copy_from_slice(&was[0..n]);
         return Ok(Answer::Empty);
-    }
+    };
     if same_spans(spans, &was[0..n]) {
         Ok(Answer::Stood)
     } else {

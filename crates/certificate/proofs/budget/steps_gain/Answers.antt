@@ -1,27 +1,32 @@
--- The steps, one after the other.
-use Rattle.std.proofs.Common.{ℕ, ◌<◌, get_or, ℤ, pos, ◌≤ℤ◌, arith, lit≤}
-use Rattle.numbers.specs.Magnitudes.{abs}
+-- What each step's square has too much, added.
+use Rattle.std.proofs.Common.{ℤ, sym, subst, lit≤, rules}
+use Rattle.std.proofs.ByRecursion.{All-get_or}
+use Rattle.std.proofs.lemmas.Iterator.{YieldsList-from_slice, YieldsList-from_map}
+use Rattle.std.proofs.lemmas.Iterator.Adapters.{serves_from_places}
+use Rattle.factoring.specs.declared.tables.StepTable.{StepTable}
 use Rattle.factoring.specs.Stored.{step_at}
 use Rattle.certificate.specs.Budgets.{step_gain}
 use Rattle.certificate.specs.Ready.{SmallGain}
-use Rattle.certificate.proofs.ChargeSteps.{sum_fits, sum_step}
-use Rattle.certificate.proofs.BudgetTables.{no_step, gain_size, of_taken, gain_size_lem, steps_all}
+use Rattle.certificate.proofs.BudgetTables.{gain_size, gain_size_lem}
+use Rattle.certificate.proofs.FewSums.{OfSteps, few_steps, few_fit, steps_total}
 use Rattle.certificate.proofs.budget.steps_gain.Goals as goal
+use Rattle.certificate.proofs.budget.steps_gain.Goals.{After-map}
 
-pub step_gain-total-requires : goal.step_gain-total-requires
-step_gain-total-requires c = of_taken (λ s. SmallGain (step_at s)) c.args.count c.args.steps.now (omega arith) c.requires.small c.loop-k.k c.loop-k-test.true
+abbrev gain : StepTable → ℤ
+gain s = step_gain (step_at s)
 
-abbrev term : goal.After-step_gain-total → ℕ → ℤ
-term c k = step_gain (step_at (get_or c.args.steps.now k no_step))
+terms : (c : After-map) → OfSteps (λ s. SmallGain (step_at s)) c.args.steps.now step_gain gain_size
+terms c = record { few = c.requires.few; all = c.requires.small; size = λ s p. gain_size_lem (step_at s) p; room = lit≤ tt }
 
-each : (c : goal.After-step_gain-total) (k : ℕ) → k < c.args.count → abs (term c k) ≤ℤ pos gain_size
-each c k l = gain_size_lem _ (of_taken (λ s. SmallGain (step_at s)) c.args.count c.args.steps.now (omega arith) c.requires.small k l)
+pub sum-requires-clause-can : goal.sum-requires-clause-can
+sum-requires-clause-can c = (
+  tt,
+  serves_from_places (YieldsList-from_slice c.args.steps.now cc) (λ x q k. search rules)
+      (λ x k l e. let p : SmallGain (step_at x.now) = subst (λ s. SmallGain (step_at s)) (sym e) (All-get_or (λ s. SmallGain (step_at s)) c.args.steps.now k x.now l c.requires.small) in search rules),
+)
 
-pub overflow_add-total : goal.overflow_add-total
-overflow_add-total c = sum_fits _ _ c.loop-k.k _ (term c) gain_size c.loop-k.invariant c.step_gain-total.ensures c.loop-k-test.true c.requires.few (each c) (lit≤ tt)
-
-pub loop-k-preserved : goal.loop-k-preserved
-loop-k-preserved c = sum_step _ _ c.loop-k.k _ (term c) gain_size c.loop-k.invariant c.step_gain-total.ensures c.loop-k-test.true c.requires.few (each c) (lit≤ tt)
+pub sum-requires-clause-fits : goal.sum-requires-clause-fits
+sum-requires-clause-fits c = few_fit (few_steps (terms c)) (YieldsList-from_map _ gain (YieldsList-from_slice c.args.steps.now cc) c.map.ensures.closure (λ x r q k. search rules))
 
 pub returns : goal.returns
-returns c = steps_all _ step_gain c.args.steps.now c.loop-k.k c.args.count c.loop-k.invariant (omega arith) c.loop-k-test.false (omega arith)
+returns c = steps_total (terms (goal.at.returns c).After-map) (YieldsList-from_map _ gain (YieldsList-from_slice c.args.steps.now cc) c.map.ensures.closure (λ x r q k. search rules)) c.sum.result c.sum.ensures.ran

@@ -40,10 +40,7 @@ returns-then-budget-lt0 c =
     record { answer = t.0; after = t.1 }
 
 pub narrow_back-requires : goal.narrow_back-requires
-narrow_back-requires c = record {
-  on_box = box_passed c.args.f.now c.args.spans.now (passes (goal.at.narrow_back-requires c).In_ok-check_run);
-  budget = let f = held (goal.at.narrow_back-requires c).After-budget_of-budget in let l = c.if-budget-lt0.false in omega (arith, ints);
-}
+narrow_back-requires c = box_passed c.args.f.now c.args.spans.now (passes (goal.at.narrow_back-requires c).In_ok-check_run)
 
 pub slice_bounds-copy_from_slice-end : goal.slice_bounds-copy_from_slice-end
 slice_bounds-copy_from_slice-end c =
@@ -51,12 +48,12 @@ slice_bounds-copy_from_slice-end c =
     (passes (goal.at.slice_bounds-copy_from_slice-end c).In_ok-check_run) c.copy_of-was.ensures
 
 -- where nothing is left, the copy is put back
-pub returns-then-not-narrow_back : goal.returns-then-not-narrow_back
-returns-then-not-narrow_back c =
+pub returns-in_default : goal.returns-in_default
+returns-in_default c =
     let v : c.copy_from_slice.new.self ≡ take (length c.args.spans.now - 0) c.copy_of-was.result = search rules in
     let t = told_back (Means c.args.f.now) (few_coordinates c.args.f.now) c.args.spans.now c.copy_of-was.result c.copy_from_slice.new.self
-    (passes (goal.at.returns-then-not-narrow_back c).In_ok-check_run) c.copy_of-was.ensures
-    (map_is (goal.at.returns-then-not-narrow_back c).After-copy_of-was _ c.if-not-narrow_back.ensures) v in
+    (passes (goal.at.returns-in_default c).In_ok-check_run) c.copy_of-was.ensures
+    (map_is (goal.at.returns-in_default c).After-copy_of-was _ c.in_default.ensures) v in
     record { answer = t.0; after = t.1 }
 
 pub slice_bounds-same_spans-end : goal.slice_bounds-same_spans-end
@@ -69,7 +66,7 @@ pub returns-then-same_spans : goal.returns-then-same_spans
 returns-then-same_spans c =
     let t = told-left (Means c.args.f.now) (few_coordinates c.args.f.now) c.args.spans.now c.copy_of-was.result c.narrow_back.new.spans
     (passes (goal.at.returns-then-same_spans c).In_ok-check_run) c.copy_of-was.ensures
-    true (map_is (goal.at.returns-then-same_spans c).After-copy_of-was _ c.if-not-narrow_back.ensures) c.if-same_spans.ensures in
+    true (map_is (goal.at.returns-then-same_spans c).After-copy_of-was _ c.in-Some.ensures) c.if-same_spans.ensures in
     record { answer = t.0; after = t.1 }
 
 -- the box that is left is another than the copy
@@ -77,5 +74,5 @@ pub returns-else-same_spans : goal.returns-else-same_spans
 returns-else-same_spans c =
     let t = told-left (Means c.args.f.now) (few_coordinates c.args.f.now) c.args.spans.now c.copy_of-was.result c.narrow_back.new.spans
     (passes (goal.at.returns-else-same_spans c).In_ok-check_run) c.copy_of-was.ensures
-    false (map_is (goal.at.returns-else-same_spans c).After-copy_of-was _ c.if-not-narrow_back.ensures) c.if-same_spans.ensures in
+    false (map_is (goal.at.returns-else-same_spans c).After-copy_of-was _ c.in-Some.ensures) c.if-same_spans.ensures in
     record { answer = t.0; after = t.1 }

@@ -1,9 +1,6 @@
--- The steps from k on have narrowed the box to the one that is left.
-use Rattle.std.proofs.Common.{◌≡◌, take, Some}
-use Rattle.model.specs.Boxes.{IsBox}
-use Rattle.certificate.proofs.CutSteps.{from}
+-- What the steps that are left to do give is what all give.
+use Rattle.certificate.proofs.CutSteps.{ToDo}
 use Rattle.certificate.proofs.cuts.narrow_back.Given as goal
 
-abbrev pub invariant-loop-k : goal.invariant-loop-k
-invariant-loop-k l =
-    IsBox l.f.sums.row.size l.spans × (from l.f.sums.row.size l.budget l.initial.spans l.k (take l.f.count l.f.steps) ≡ Some l.spans)
+abbrev pub invariant-loop-step : goal.invariant-loop-step
+invariant-loop-step l = ToDo l.f l.budget l.initial.spans l.spans l.step-iterator.iter.rest.now

@@ -6,21 +6,21 @@ use Rattle.factoring.specs.Stored.{step_at}
 use Rattle.certificate.specs.Maps.{cut_of}
 use Rattle.certificate.proofs.CutSteps.{cut_none, cut_some}
 use Rattle.certificate.proofs.cuts.narrow_by.Goals as goal
-use Rattle.certificate.proofs.cuts.narrow_by.Goals.{After-cut_of-cut}
+use Rattle.certificate.proofs.cuts.narrow_by.Goals.{After-range-cut}
 
 -- the cut of the code is that of the definition
-cut : (c : After-cut_of-cut) → c.cut_of-cut.result ≡ cut_of (length c.args.spans.now) c.args.budget (step_at c.args.step.now) c.args.spans.now
-cut c = c.cut_of-cut.ensures ∙ ap (λ b. cut_of (length c.args.spans.now) b (step_at c.args.step.now) c.args.spans.now) (to_z-of_z w64 c.args.budget c.ranges.budget)
+cut : (c : After-range-cut) → c.range-cut.result ≡ cut_of (length c.args.spans.now) c.args.budget (step_at c.args.step.now) c.args.spans.now
+cut c = c.range-cut.ensures ∙ ap (λ b. cut_of (length c.args.spans.now) b (step_at c.args.step.now) c.args.spans.now) (to_z-of_z w64 c.args.budget c.ranges.budget)
 
-pub returns-in_default : goal.returns-in_default
-returns-in_default c =
-    cut_none (length c.args.spans.now) c.args.budget (step_at c.args.step.now) c.args.spans.now _ _ _ (cut (goal.at.returns-in_default c).After-cut_of-cut) c.ends.ensures
-    c.meeting.ensures.value c.in_default.is
+pub returns-in_err-low : goal.returns-in_err-low
+returns-in_err-low c =
+    let e = cut_none (length c.args.spans.now) c.args.budget (step_at c.args.step.now) c.args.spans.now _ _ _ (cut (goal.at.returns-in_err-low c).After-range-cut) c.ends.ensures c.meeting.ensures.value c.in_err-low.was in
+    rw c.from_residual.ensures e
 
 pub returns : goal.returns
 returns c =
-    let f : SFits w64 c.in-Some.low = search rules in
-    let g : SFits w64 c.in-Some.high = search rules in
-    let s : c.new.result ≡ span c.in-Some.low c.in-Some.high = simp to_z-of_z at c.new.ensures in
-    cut_some (length c.args.spans.now) c.args.budget (step_at c.args.step.now) c.args.spans.now _ _ _ (cut (goal.at.returns c).After-cut_of-cut) c.ends.ensures
-    c.meeting.ensures.value _ _ _ c.in-Some.is s
+    let f : SFits w64 c.in_ok-low.low = search rules in
+    let g : SFits w64 c.in_ok-low.high = search rules in
+    let s : c.new.result ≡ span c.in_ok-low.low c.in_ok-low.high = simp to_z-of_z at c.new.ensures in
+    cut_some (length c.args.spans.now) c.args.budget (step_at c.args.step.now) c.args.spans.now _ _ _ (cut (goal.at.returns c).After-range-cut) c.ends.ensures
+    c.meeting.ensures.value _ _ _ c.in_ok-low.was s

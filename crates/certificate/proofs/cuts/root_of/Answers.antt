@@ -1,7 +1,6 @@
 -- The ratio and its root are those of the definition, and small.
 use Rattle.std.proofs.Common.{◌≡◌, ◌*◌, min, pos, nat_abs, ap, ◌∙◌, arith, w64, SFits}
 use borrow.Author.Differences.{ints}
-use Rattle.std.specs.Int.{int_min}
 use Rattle.std.proofs.lemmas.Int.{to_z-of_z}
 use Rattle.numbers.specs.Division.{up}
 use Rattle.numbers.specs.Roots.{root_limit, root_up}
@@ -13,13 +12,10 @@ use Rattle.certificate.proofs.cuts.root_of.Goals.{After-root_up}
 -- the root of the code is that of the definition
 root : (c : After-root_up) → pos c.root_up.result ≡ root_of c.args.budget c.args.pivot.value
 root c =
-    let fb : SFits w64 c.args.budget = c.ranges.budget in
-    let fu : SFits w64 c.up_by.result = record { sfits = c.up_by.type_inv } in
-    let fm : SFits w64 c.min-ratio.result = record { sfits = c.min-ratio.type_inv } in
-    let u : c.up_by.result ≡ up c.args.budget c.args.pivot.value = c.up_by.ensures ∙ ap (λ z. up z c.args.pivot.value) (to_z-of_z w64 c.args.budget fb) in
-    let m : c.min-ratio.result ≡ int_min c.up_by.result (pos 2147483648) = simp to_z-of_z at c.min-ratio.ensures.value in
-    let r : c.root_up.result ≡ root_up (min (256 * nat_abs c.min-ratio.result) root_limit) = simp to_z-of_z at c.root_up.ensures.value in
-    root_is c.args.budget c.args.pivot.value c.up_by.result c.min-ratio.result c.requires c.args.pivot.above u m c.root_up.result r
+    let f : SFits w64 c.up_by.result = record { sfits = c.up_by.type_inv } in
+    root_is c.args.budget c.args.pivot.value c.up_by.result c.root_up.result
+    (c.up_by.ensures ∙ ap (λ z. up z c.args.pivot.value) (to_z-of_z w64 c.args.budget c.ranges.budget))
+    (c.root_up.ensures.value ∙ ap (λ m. root_up (min (256 * m) root_limit)) (c.min-ratio.ensures ∙ ap (λ m. min m 2147483648) (c.unsigned_abs.ensures.value ∙ ap nat_abs (to_z-of_z w64 c.up_by.result f))))
 
 pub overflow_cast-result : goal.overflow_cast-result
 overflow_cast-result c =

@@ -1,8 +1,0 @@
--- The terms, one after the other.
-use Rattle.std.proofs.Common.{◌≡◌}
-use Rattle.factoring.specs.Stored.{range_at}
-use Rattle.certificate.specs.Charges.{slacks_charge}
-use Rattle.certificate.proofs.charges.slacks_charge.Given as goal
-
-abbrev pub invariant-loop-j : goal.invariant-loop-j
-invariant-loop-j l = l.total ≡ slacks_charge l.j l.spans l.axis (range_at l.c)
