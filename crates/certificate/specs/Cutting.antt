@@ -1,5 +1,5 @@
 -- What the code that cuts coordinates is handed, and what it hands back.
-use Rattle.std.specs.Prelude.{◌≡◌, ℕ, ◌<◌, List, pos, ◌≤ℤ◌, ◌<ℤ◌, Some, None, Option}
+use Rattle.std.specs.Prelude.{ℕ, ◌<◌, List, pos, ◌≤ℤ◌, ◌<ℤ◌}
 use Rattle.numbers.specs.Magnitudes.{abs}
 use Rattle.model.specs.declared.span.Span.{Span}
 use Rattle.model.specs.Boxes.{IsBox}
@@ -16,8 +16,3 @@ pub record SmallSquare (n : ℕ) (s : Step) : Type 0 where
 pub record Cuttable (n : ℕ) (s : Step) (X : List Span) : Type 0 where
   pub step : SmallSquare n s
   pub box : IsBox n X
-
--- what is handed back of a map that gives o: none where it gives none, else a box Y
-abbrev pub Left : Option (List Span) → Option (Unit {0}) → List Span → Type 0
-Left o None Y = o ≡ None
-Left o (Some u) Y = o ≡ Some Y

@@ -1,7 +1,8 @@
 //! A certificate's calls: a new one, the check that writes it, and its narrowing.
 
 ghost use Rattle.std.specs.Prelude.{◌≡◌, Some, count_ones};
-ghost use Rattle.narrower.specs.Answers.{answer_of, after_of};
+ghost use Rattle.model.specs.Boxes.{IsBox};
+ghost use Rattle.narrower.specs.Answers.{CutTo};
 ghost use Rattle.weighing.specs.Laws.{AggregatedRowFollows};
 ghost use Rattle.certificate.specs.Certificates.{meaning_of, certificate_meaning, told_of, nothing_told};
 ghost use Rattle.certificate.specs.Checks.{check_refusal, proposed, after_check};
@@ -15,10 +16,9 @@ use crate::cuts::narrow_back;
 use factoring::factored::Factored;
 use model::held_rows::HeldRows;
 use model::span::Span;
-use model::spans::{copy_of, same_spans};
 use narrower::answer::Answer;
 use narrower::faults::{NarrowFault, ProposalFault};
-use narrower::interface::{Narrower, check_run};
+use narrower::interface::{Cutter, Narrower, narrow_by_cuts};
 use weighing::marks::marks;
 use weighing::weights::weigh;
 
@@ -70,26 +70,36 @@ impl Certificate {
     }
 }
 
-/// Narrows the box in a run of spans by a factoring.
-fn narrow_with(f: &Factored, spans: &mut [Span]) -> Result<Answer, NarrowFault>
-    ensures answer { result ≡ answer_of (meaning_of (Some f.now)) spans.old }
-    ensures after { spans.new ≡ after_of (meaning_of (Some f.now)) spans.old }
+/// Cuts a box by a factoring; none where nothing is left.
+fn cut_with(f: &Factored, spans: &mut [Span]) -> Option<()>
+    requires { IsBox f.now.sums.row.size spans.old }
+    ensures { CutTo ((meaning_of (Some f.now)).map spans.old) result spans.new }
 {
-    check_run(f.sums.row.size, spans)?;
     let budget = budget_of(f, spans);
     if budget < 0 {
-        return Ok(Answer::Empty);
-    }
-    let n = spans.len();
-    let was = copy_of(spans);
-    let Some(()) = narrow_back(f, spans, budget) else {
-        spans.copy_from_slice(&was[0..n]);
-        return Ok(Answer::Empty);
-    };
-    if same_spans(spans, &was[0..n]) {
-        Ok(Answer::Stood)
+        None
     } else {
-        Ok(Answer::Narrowed)
+        narrow_back(f, spans, budget)
+    }
+}
+
+impl Cutter for Certificate {
+    ghost meaning = { certificate_meaning };
+
+    ghost few = { λ c. CertificateNarrowerLemmas.few c.factored };
+
+    fn box_size(&self) -> usize {
+        match &self.factored {
+            None => 0,
+            Some(f) => f.sums.row.size,
+        }
+    }
+
+    fn cut(&self, spans: &mut [Span]) -> Option<()> {
+        match &self.factored {
+            None => Some(()),
+            Some(f) => cut_with(f, spans),
+        }
     }
 }
 
@@ -99,16 +109,10 @@ impl Narrower for Certificate {
     ghost lawful = { λ n. CertificateNarrowerLemmas.lawful n.factored };
 
     fn size(&self) -> usize {
-        match &self.factored {
-            None => 0,
-            Some(f) => f.sums.row.size,
-        }
+        self.box_size()
     }
 
     fn narrow(&mut self, spans: &mut [Span]) -> Result<Answer, NarrowFault> {
-        match &self.factored {
-            None => Err(NarrowFault::Length),
-            Some(f) => narrow_with(f, spans),
-        }
+        narrow_by_cuts(self, spans)
     }
 }

@@ -2,10 +2,11 @@
 
 ghost use Rattle.std.specs.Prelude.{◌≡◌, length, take};
 ghost use Rattle.model.specs.Boxes.{IsBox};
+ghost use Rattle.narrower.specs.Answers.{CutTo};
 ghost use Rattle.factoring.specs.Stored.{step_at, steps_at};
 ghost use Rattle.certificate.specs.Budgets.{root_of};
 ghost use Rattle.certificate.specs.Maps.{slopes_range, cut_of, narrow_by, backward};
-ghost use Rattle.certificate.specs.Cutting.{Cuttable, Left};
+ghost use Rattle.certificate.specs.Cutting.{Cuttable};
 
 use crate::cut::Cut;
 use factoring::factored::Factored;
@@ -59,7 +60,7 @@ impl Cut<'_> {
 /// Meets the span of the step's axis with what the budget leaves of it; none where nothing is left.
 fn narrow_by(step: &StepTable, spans: &mut [Span], budget: i64) -> Option<()>
     requires { Cuttable (length spans.old) (step_at step.now) spans.old }
-    ensures { Left (narrow_by (length spans.old) budget (step_at step.now) spans.old) result spans.new }
+    ensures { CutTo (narrow_by (length spans.old) budget (step_at step.now) spans.old) result spans.new }
 {
     let cut = Cut { step, spans }.range(budget);
     let (low, high) = meeting(spans[step.axis].ends(), cut)?;
@@ -70,7 +71,7 @@ fn narrow_by(step: &StepTable, spans: &mut [Span], budget: i64) -> Option<()>
 /// Narrows the spans by each step, from the last to the first, with the spans as narrowed so far; none where nothing is left of one.
 pub(crate) fn narrow_back(f: &Factored, spans: &mut [Span], budget: i64) -> Option<()>
     requires { IsBox f.now.sums.row.size spans.old }
-    ensures { Left (backward f.now.sums.row.size budget (steps_at (take f.now.count f.now.steps)) spans.old) result spans.new }
+    ensures { CutTo (backward f.now.sums.row.size budget (steps_at (take f.now.count f.now.steps)) spans.old) result spans.new }
 {
     for step in f.steps[..f.count].iter().rev() {
         narrow_by(step, spans, budget)?;
