@@ -3,7 +3,7 @@ pub mod Forms
 pub mod Usable
 pub mod Aggregates
 pub mod SumsFit
-pub mod Passing
 pub mod MarkSteps
-pub mod TotalSteps
-pub mod Fills
+pub mod Adding
+pub mod Tables
+pub mod Chains

@@ -1,6 +1,8 @@
 -- Marks: how many are set, and how a loop sets them.
-use Rattle.std.proofs.Common.{◌≡◌, ℕ, zero, suc, ◌+◌, ◌*◌, ◌%◌, ◌^◌, ◌<◌, ◌≤◌, Bool, true, false, cond, List, length, get_or, ℤ, pos, sym, ap, ◌∙◌, pow-suc, add-one, arith, pow_mono}
+use Rattle.std.proofs.Common.{◌≡◌, ℕ, zero, suc, ◌+◌, ◌*◌, ◌%◌, ◌^◌, ◌<◌, ◌≤◌, Bool, true, false, cond, List, length, get_or, take, ℤ, pos, sym, refl, ap, ◌∙◌, ap₂, pow-suc, add-one, arith, pow_mono, w64, SFits, of_z}
 use lib.Count.{ones, ones_cat, ones-ones}
+use Rattle.std.proofs.lemmas.Int.{ints}
+use Rattle.std.proofs.lemmas.List.{get_or-take}
 use Rattle.std.proofs.lemmas.Nat.{one_shl}
 use Rattle.numbers.specs.Division.{is_zero}
 use Rattle.model.specs.Limits.{most_rows}
@@ -15,7 +17,7 @@ bit_at_most true p = omega arith
 bit_at_most false p = omega arith
 
 -- the marks of m rows need m bits
-pub marks_below_lem : (m : ℕ) (ws : List ℤ) → marks_below m ws < 2 ^ m
+marks_below_lem : (m : ℕ) (ws : List ℤ) → marks_below m ws < 2 ^ m
 marks_below_lem zero ws = omega arith
 marks_below_lem (suc m) ws =
     let h = marks_below_lem m ws in
@@ -39,6 +41,14 @@ marks_are_counted ws few = marks_counted (length ws) ws
 
 -- ---- a loop that sets them
 
+-- the bits of a weight are not 0
+pub not_zero : (z : ℤ) → SFits w64 z → (of_z w64 z ≡ 0 → ⊥) → false ≡ is_zero z
+not_zero z s n = grind (arith, ints)
+
+-- they are 0
+pub zero_bits : (z : ℤ) → SFits w64 z → of_z w64 z ≡ 0 → true ≡ is_zero z
+zero_bits z s e = grind (arith, ints)
+
 -- one more row, by its weight
 marks_with : (m : ℕ) (ws : List ℤ) (b : Bool) → b ≡ is_zero (get_or ws m (pos 0)) → marks_below (m + 1) ws ≡ marks_below m ws + cond b 0 (2 ^ m)
 marks_with m ws b e = rw add-one (ap (λ t. marks_below m ws + cond t 0 (2 ^ m)) (sym e))
@@ -54,3 +64,8 @@ mark_more m n ws l h e = let f = marks_with m ws false e in let s : (1 * 2 ^ m) 
 -- sixteen marks fit
 pub marks_fit : (m : ℕ) (ws : List ℤ) → m ≤ most_rows → marks_below m ws < 65536
 marks_fit m ws l = let h = marks_below_lem m ws in let p : 2 ^ m ≤ 65536 = pow_mono l in omega arith
+
+-- the weights beyond a front don't count in it
+pub marks_below-take : (m n : ℕ) (ws : List ℤ) → m ≤ n → marks_below m (take n ws) ≡ marks_below m ws
+marks_below-take zero n ws l = refl
+marks_below-take (suc m) n ws l = ap₂ (λ (a : ℕ) (w : ℤ). a + cond (is_zero w) 0 (2 ^ m)) (marks_below-take m n ws (omega arith)) (get_or-take n ws m (pos 0) (omega arith))

@@ -11,7 +11,9 @@ use Rattle.model.specs.Firsts.{first_below}
 use Rattle.model.specs.Rows.{Row, RowWithin, size_fits}
 use Rattle.model.specs.Drafts.{drafted, blank, bad_row}
 use Rattle.model.proofs.RowLimits.{row_at_lem, within_of_fits}
-use Rattle.weighing.specs.Refusals.{weight_limit, weight_fits, heavy_at, or_else, weights_place, has_end, absent_at, weights_at, end_at, weigh_refusal}
+use Rattle.narrower.specs.declared.faults.ProposalFault.{ProposalFault}
+use Rattle.narrower.specs.declared.faults.ProposalFault.TheVariants.{WeightCount, AllZero}
+use Rattle.weighing.specs.Refusals.{weight_limit, weight_fits, heavy_at, all_zero, or_else, weights_at, weights_refusal, has_end, absent_at, end_at, weigh_refusal}
 
 -- a weight within its limit, and a row of size n within its limits that has the end which the weight needs
 pub record Fitting (n : ℕ) (w : ℤ) (r : Row) : Type 0 where
@@ -36,7 +38,7 @@ passes_too None false m h = let z : ◌≡◌ {A = ℕ} 0 1 = cc in absurd (omeg
 passes_too (Some k) b m h = let z : ◌≡◌ {A = ℕ} 0 1 = cc in absurd (omega arith)
 
 -- where no place is found, each place below the bound passes
-pub unfound_at : (n : ℕ) (ok : ℕ → Bool) → first_below n ok ≡ None → (k : ℕ) → k < n → ok k ≡ true
+unfound_at : (n : ℕ) (ok : ℕ → Bool) → first_below n ok ≡ None → (k : ℕ) → k < n → ok k ≡ true
 unfound_at zero ok h k l = absurd (omega arith)
 unfound_at (suc n) ok h k l =
     let p = passes_too (first_below n ok) (ok n) (suc n) h in
@@ -47,35 +49,37 @@ or_none : {A : Type 0} (o p : Option A) → or_else o p ≡ None → (o ≡ None
 or_none None p h = (refl, h)
 or_none (Some a) p h = let z : ◌≡◌ {A = ℕ} 0 1 = cc in absurd (omega arith)
 
-no_weights : (o : Option ℕ) → weights_at o ≡ None → o ≡ None
-no_weights None h = refl
-no_weights (Some k) h = let z : ◌≡◌ {A = ℕ} 0 1 = cc in absurd (omega arith)
+no_heavy : (o : Option ℕ) → weights_at o ≡ None → o ≡ None
+no_heavy None h = refl
+no_heavy (Some k) h = let z : ◌≡◌ {A = ℕ} 0 1 = cc in absurd (omega arith)
 
 no_end : (o : Option ℕ) → end_at o ≡ None → o ≡ None
 no_end None h = refl
 no_end (Some k) h = let z : ◌≡◌ {A = ℕ} 0 1 = cc in absurd (omega arith)
 
-right_length : (b : Bool) (o : Option ℕ) → cond b o (Some 0) ≡ None → (b ≡ true) × (o ≡ None)
+right_length : (b : Bool) (o : Option ProposalFault) → cond b o (Some WeightCount) ≡ None → (b ≡ true) × (o ≡ None)
 right_length true o h = (refl, h)
 right_length false o h = let z : ◌≡◌ {A = ℕ} 0 1 = cc in absurd (omega arith)
 
 module _ (ws : List ℤ) (ds : List RowDraft) (h : weigh_refusal ws ds ≡ None) where
-  places : (weights_place (length ds) ws ≡ None) × (absent_at ws ds ≡ None)
-  places =
-      let p = or_none (weights_at (weights_place (length ds) ws)) (end_at (absent_at ws ds)) h in
-      (no_weights _ p.0, no_end _ p.1)
+  -- nothing is refused by 15, and nothing by 16
+  unrefused : (weights_refusal (length ds) ws ≡ None) × (end_at (absent_at ws ds) ≡ None)
+  unrefused = or_none (weights_refusal (length ds) ws) (end_at (absent_at ws ds)) h
+
+  counted : (eqb (length ws) (length ds) ≡ true) × (or_else (weights_at (heavy_at ws)) (cond (all_zero ws) (Some AllZero) None) ≡ None)
+  counted = right_length (eqb (length ws) (length ds)) _ unrefused.0
 
   -- a weight for each row
   pub as_many : length ws ≡ length ds
-  as_many = eqb-true _ _ (right_length (eqb (length ws) (length ds)) _ places.0).0
+  as_many = eqb-true _ _ counted.0
 
   -- none beyond its limit
-  pub none_heavy : heavy_at ws ≡ None
-  none_heavy = (or_none (heavy_at ws) _ (right_length (eqb (length ws) (length ds)) _ places.0).1).0
+  none_heavy : heavy_at ws ≡ None
+  none_heavy = no_heavy _ (or_none (weights_at (heavy_at ws)) _ counted.1).0
 
   -- each with the end that it needs
-  pub none_absent : absent_at ws ds ≡ None
-  none_absent = places.1
+  none_absent : absent_at ws ds ≡ None
+  none_absent = no_end _ unrefused.1
 
 -- a size that fits is at most nine
 pub size_at_most : (n : ℕ) → size_fits n ≡ true → n ≤ most_coordinates
@@ -94,7 +98,7 @@ usable_each n (w ∷ ws) [] e h = absurd (omega arith)
 usable_each n (w ∷ ws) (d ∷ ds) e h = (h 0 (omega arith), usable_each n ws ds (omega arith) (λ k l. h (suc k) (omega arith)))
 
 -- each weight, with its row
-pub fitting-at : (n : ℕ) (ws : List ℤ) (ds : List RowDraft) → bad_row n ds ≡ None → weigh_refusal ws ds ≡ None
+fitting-at : (n : ℕ) (ws : List ℤ) (ds : List RowDraft) → bad_row n ds ≡ None → weigh_refusal ws ds ≡ None
     → (k : ℕ) → k < length ws → Fitting n (get_or ws k (pos 0)) (drafted (get_or ds k (blank 0)))
 fitting-at n ws ds b h k l =
     let e = as_many ws ds h in

@@ -1,5 +1,5 @@
 -- One coefficient of a row, by its name in the code.
-use Rattle.std.specs.Prelude.{ℕ, ◌<◌}
+use Rattle.std.specs.Prelude.{ℕ, Bool, ◌&&◌, nat_lt}
 use Rattle.numbers.specs.Ranges.{Range}
 use Rattle.model.specs.Rows.{Row}
 use Rattle.weighing.specs.declared.coefficient.Coefficient.{Coefficient}
@@ -11,8 +11,8 @@ coefficient_of (Square i) r = r.squares i
 coefficient_of (Pair i j) r = r.pairs i j
 coefficient_of (Single i) r = r.singles i
 
--- a row of n coordinates has the coefficient: its indices are below n, and those of a pair in order
-abbrev pub HasCoefficient : ℕ → Coefficient → Type 0
-HasCoefficient n (Square i) = i < n
-HasCoefficient n (Pair i j) = (i < j) × (j < n)
-HasCoefficient n (Single i) = i < n
+-- a test: a row of n coordinates has the coefficient, so its indices are below n, and those of a pair in order
+abbrev pub has_coefficient : ℕ → Coefficient → Bool
+has_coefficient n (Square i) = nat_lt i n
+has_coefficient n (Pair i j) = nat_lt i j && nat_lt j n
+has_coefficient n (Single i) = nat_lt i n

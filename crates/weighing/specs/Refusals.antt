@@ -6,7 +6,7 @@ use Rattle.model.specs.Firsts.{every, first_below}
 use Rattle.model.specs.Rows.{Row}
 use Rattle.model.specs.Drafts.{blank, drafted}
 use Rattle.narrower.specs.declared.faults.ProposalFault.{ProposalFault}
-use Rattle.narrower.specs.declared.faults.ProposalFault.TheVariants.{Weights, AbsentEnd}
+use Rattle.narrower.specs.declared.faults.ProposalFault.TheVariants.{WeightCount, Weights, AllZero, AbsentEnd}
 
 -- WEIGHT_LIMIT: how far from 0 a weight may be
 abbrev pub weight_limit : ℕ
@@ -29,9 +29,14 @@ abbrev pub or_else : {A : Type 0} → Option A → Option A → Option A
 or_else None b = b
 or_else (Some a) b = Some a
 
--- the place of refusal 15 for m rows: 0 for a list of another length, then the first weight beyond its limit, then 0 where all are 0
-abbrev pub weights_place : ℕ → List ℤ → Option ℕ
-weights_place m ws = cond (length ws == m) (or_else (heavy_at ws) (cond (all_zero ws) (Some 0) None)) (Some 0)
+-- a weight beyond its limit is refused at its place
+abbrev pub weights_at : Option ℕ → Option ProposalFault
+weights_at None = None
+weights_at (Some k) = Some (Weights k)
+
+-- refusal 15 for m rows: of a list of another length, then of the first weight beyond its limit, then where all are 0
+abbrev pub weights_refusal : ℕ → List ℤ → Option ProposalFault
+weights_refusal m ws = cond (length ws == m) (or_else (weights_at (heavy_at ws)) (cond (all_zero ws) (Some AllZero) None)) (Some WeightCount)
 
 -- an end is present
 abbrev pub present : Option ℤ → Bool
@@ -48,11 +53,6 @@ has_end (negsuc w) r = present r.low
 abbrev pub absent_at : List ℤ → List RowDraft → Option ℕ
 absent_at ws ds = first_below (length ws) (λ k. has_end (slice_index_or ws k (pos 0)) (drafted (slice_index_or ds k (blank 0))))
 
--- refusal 15 at a place, if there is one
-abbrev pub weights_at : Option ℕ → Option ProposalFault
-weights_at None = None
-weights_at (Some k) = Some (Weights k)
-
 -- refusal 16 at a place, if there is one
 abbrev pub end_at : Option ℕ → Option ProposalFault
 end_at None = None
@@ -60,4 +60,4 @@ end_at (Some k) = Some (AbsentEnd k)
 
 -- what is refused of the weights: 15, then 16
 abbrev pub weigh_refusal : List ℤ → List RowDraft → Option ProposalFault
-weigh_refusal ws ds = or_else (weights_at (weights_place (length ds) ws)) (end_at (absent_at ws ds))
+weigh_refusal ws ds = or_else (weights_refusal (length ds) ws) (end_at (absent_at ws ds))

@@ -1,5 +1,5 @@
 -- What weighing gives: a refusal, or the weighted sums in tables.
-use Rattle.std.specs.Prelude.{◌≡◌, ℕ, List, [], Ok, Err, Result, slice_index_or}
+use Rattle.std.specs.Prelude.{◌≡◌, ℕ, List, [], map, Ok, Err, Result, slice_index_or}
 use Rattle.numbers.specs.Ranges.{Range}
 use Rattle.model.specs.declared.span.Span.{Span}
 use Rattle.model.specs.declared.sums.Sums.{Sums}
@@ -7,6 +7,12 @@ use Rattle.model.specs.Boxes.{at}
 use Rattle.model.specs.Rows.{Row}
 use Rattle.model.specs.Drafts.{drafted}
 use Rattle.narrower.specs.declared.faults.ProposalFault.{ProposalFault}
+use Rattle.weighing.specs.declared.weighted.Weighted.{Weighted}
+use Rattle.weighing.specs.Weights.{aggregate}
+
+-- the aggregated row of rows that are held with their weights
+abbrev pub weighed : Weighted → Row
+weighed a = aggregate a.held.size a.weights.now (map drafted a.held.rows.now)
 
 -- the sums, where nothing is refused, are this row
 abbrev pub SumsAre : Result Sums ProposalFault → Row → Type 0

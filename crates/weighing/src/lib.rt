@@ -4,6 +4,6 @@
 pub mod coefficient;
 pub mod marks;
 mod refusals;
-mod tables;
 mod totals;
+mod weighted;
 pub mod weights;

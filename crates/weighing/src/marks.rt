@@ -13,9 +13,9 @@ pub fn marks(weights: &[i64]) -> u16
     ensures law { MarksAreCounted }
 {
     let mut marks: u16 = 0;
-    let count = weights.len().min(MOST_ROWS);
-    for k in 0..count {
-        if weights[k] != 0 {
+    let first = &weights[..weights.len().min(MOST_ROWS)];
+    for (k, weight) in first.iter().enumerate() {
+        if *weight != 0 {
             marks += 1 << k;
         }
     }

@@ -2,7 +2,8 @@
 
 ghost use Rattle.std.specs.Prelude.{◌≡◌, length};
 ghost use Rattle.model.specs.Drafts.{drafted};
-ghost use Rattle.weighing.specs.Refusals.{weight_fits, heavy_at, all_zero, weights_place, has_end, absent_at, weigh_refusal};
+ghost use Rattle.narrower.specs.Faults.{refusal_of};
+ghost use Rattle.weighing.specs.Refusals.{weight_fits, heavy_at, all_zero, weights_refusal, has_end, absent_at, weigh_refusal};
 
 use model::draft::RowDraft;
 use narrower::faults::ProposalFault;
@@ -13,43 +14,39 @@ const WEIGHT_LIMIT: i64 = 64;
 fn is_light(weight: i64) -> bool
     ensures { result ≡ weight_fits weight }
 {
-    (-WEIGHT_LIMIT <= weight) & (weight <= WEIGHT_LIMIT)
+    (-WEIGHT_LIMIT..=WEIGHT_LIMIT).contains(&weight)
 }
 
 /// The place, from 1, of the first weight beyond its limit.
 fn first_heavy(weights: &[i64]) -> Option<usize>
     ensures { result ≡ heavy_at weights.now }
 {
-    for k in 0..weights.len() {
-        if !is_light(weights[k]) {
-            return Some(k + 1);
-        }
-    }
-    None
+    weights
+        .iter()
+        .position(|weight| !is_light(*weight))
+        .map(|k| k + 1)
 }
 
 fn all_zero(weights: &[i64]) -> bool
     ensures { result ≡ all_zero weights.now }
 {
-    for k in 0..weights.len() {
-        if weights[k] != 0 {
-            return false;
-        }
-    }
-    true
+    weights.iter().all(|weight| *weight == 0)
 }
 
-/// The place of refusal 15 for so many rows.
-fn weights_place(weights: &[i64], count: usize) -> Option<usize>
-    ensures { result ≡ weights_place count weights.now }
+/// Refuses with 15 what is not one weight for each of `count` rows, within its limit and not always 0.
+fn check_weights(weights: &[i64], count: usize) -> Result<(), ProposalFault>
+    ensures { refusal_of result ≡ weights_refusal count weights.now }
 {
     if weights.len() != count {
-        return Some(0);
+        return Err(ProposalFault::WeightCount);
     }
     if let Some(place) = first_heavy(weights) {
-        return Some(place);
+        return Err(ProposalFault::Weights(place));
     }
-    if all_zero(weights) { Some(0) } else { None }
+    if all_zero(weights) {
+        return Err(ProposalFault::AllZero);
+    }
+    Ok(())
 }
 
 /// Whether the row has the end that the weight needs.
@@ -65,28 +62,25 @@ fn has_end(weight: i64, row: &RowDraft) -> bool
     }
 }
 
-/// The place of refusal 16, from 1: the first weight that needs an absent end.
+/// The place, from 1, of the first weight that needs an absent end.
 fn first_absent(weights: &[i64], rows: &[RowDraft]) -> Option<usize>
     requires { length weights.now ≡ length rows.now }
     ensures { result ≡ absent_at weights.now rows.now }
 {
-    for k in 0..weights.len() {
-        if !has_end(weights[k], &rows[k]) {
-            return Some(k + 1);
-        }
-    }
-    None
+    weights
+        .iter()
+        .zip(rows)
+        .position(|(weight, row)| !has_end(*weight, row))
+        .map(|k| k + 1)
 }
 
-/// What is refused of the weights: 15, then 16.
-pub(crate) fn refusal(weights: &[i64], rows: &[RowDraft]) -> Option<ProposalFault>
-    ensures { result ≡ weigh_refusal weights.now rows.now }
+/// Refuses with 15, then with 16, weights that don't fit the rows.
+pub(crate) fn check(weights: &[i64], rows: &[RowDraft]) -> Result<(), ProposalFault>
+    ensures { refusal_of result ≡ weigh_refusal weights.now rows.now }
 {
-    if let Some(place) = weights_place(weights, rows.len()) {
-        return Some(ProposalFault::Weights(place));
-    }
+    check_weights(weights, rows.len())?;
     match first_absent(weights, rows) {
-        Some(place) => Some(ProposalFault::AbsentEnd(place)),
-        None => None,
+        Some(place) => Err(ProposalFault::AbsentEnd(place)),
+        None => Ok(()),
     }
 }

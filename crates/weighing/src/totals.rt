@@ -1,67 +1,79 @@
-//! The weighted sums of one coefficient, and of the right sides.
+//! The weighted sums of rows.
 
-ghost use Rattle.std.specs.Prelude.{◌≡◌, map, None};
+ghost use Rattle.std.specs.Prelude.{◌≡◌, map};
 ghost use Rattle.model.specs.Boxes.{ends};
 ghost use Rattle.model.specs.Drafts.{drafted};
-ghost use Rattle.weighing.specs.Coefficients.{coefficient_of, HasCoefficient};
-ghost use Rattle.weighing.specs.Refusals.{weigh_refusal};
-ghost use Rattle.weighing.specs.Weights.{end_for, bound_of, weighted};
+ghost use Rattle.weighing.specs.Coefficients.{coefficient_of};
+ghost use Rattle.weighing.specs.Weights.{end_for, bound_of};
+ghost use Rattle.weighing.specs.Weighed.{weighed, Holds};
 
 use crate::coefficient::Coefficient;
+use crate::weighted::Weighted;
 use model::draft::RowDraft;
-use model::held_rows::HeldRows;
 use model::span::Span;
-use numbers::ranges::{Range, product_range, sum_range};
-
-fn coefficient(row: &RowDraft, which: Coefficient) -> Range
-    requires { HasCoefficient 9 which }
-    ensures { result ≡ coefficient_of which (drafted row.now) }
-{
-    match which {
-        Coefficient::Square(i) => row.squares[i].ends(),
-        Coefficient::Pair(i, j) => row.pairs[i][j].ends(),
-        Coefficient::Single(i) => row.singles[i].ends(),
-    }
-}
-
-/// The weighted sum of one coefficient of all rows.
-pub(crate) fn weighted(held: HeldRows, weights: &[i64], which: Coefficient) -> Span
-    requires unrefused { weigh_refusal weights.now held.rows.now ≡ None }
-    requires which_within { HasCoefficient held.size which }
-    ensures { ends result ≡ weighted weights.now (map drafted held.entry.rows.now) (coefficient_of which) }
-{
-    let mut sum = (0, 0);
-    for k in 0..weights.len() {
-        let weight = weights[k];
-        let part = product_range((weight, weight), coefficient(&held.rows[k], which));
-        sum = sum_range(sum, part);
-    }
-    Span {
-        low: sum.0,
-        high: sum.1,
-    }
-}
+use numbers::ranges::{product_range, sum_range};
+use std::array;
 
 /// The end that the weight takes: the low one if it is negative, else the high one; 0 for an absent one.
 fn end_for(weight: i64, row: &RowDraft) -> i64
     ensures { result ≡ end_for weight (drafted row.now) }
 {
     let end = if weight < 0 { row.low } else { row.high };
-    match end {
-        None => 0,
-        Some(a) => a,
-    }
+    end.unwrap_or(0)
 }
 
-/// The sum of the weights times their ends.
-pub(crate) fn bound(held: HeldRows, weights: &[i64]) -> i64
-    requires { weigh_refusal weights.now held.rows.now ≡ None }
-    ensures { result ≡ bound_of weights.now (map drafted held.entry.rows.now) }
-{
-    let mut total = 0;
-    for k in 0..weights.len() {
-        let weight = weights[k];
-        total += weight * end_for(weight, &held.rows[k]);
+impl Weighted<'_> {
+    /// The weighted sum of one coefficient of all rows, 0 if they don't have it.
+    fn sum(self, which: Coefficient) -> Span
+        ensures { ends result ≡ coefficient_of which (weighed self.entry) }
+    {
+        if !which.is_within(self.held.size) {
+            return Span::default();
+        }
+        let (low, high) = self
+            .weights
+            .iter()
+            .zip(self.held.rows)
+            .map(|(weight, row)| product_range((*weight, *weight), which.of(row)))
+            .fold((0, 0), sum_range);
+        Span { low, high }
     }
-    total
+
+    /// The weighted sums of the pairs of coordinate `i` with those after it.
+    fn pairs_from(self, i: usize) -> [Span; 9]
+        ensures { Holds result ((weighed self.entry).pairs i) }
+    {
+        array::from_fn(|j| self.sum(Coefficient::Pair(i, j)))
+    }
+
+    /// The sum of the weights times their ends.
+    fn bound(self) -> i64
+        ensures { result ≡ bound_of self.entry.weights.now (map drafted self.entry.held.rows.now) }
+    {
+        // Nothing saturates: sixteen weights within 64, times ends within 2^36, make at most 2^46.
+        self.weights
+            .iter()
+            .zip(self.held.rows)
+            .map(|(weight, row)| weight.saturating_mul(end_for(*weight, row)))
+            .fold(0, i64::saturating_add)
+    }
+
+    /// The weighted sums of all coefficients, and of the ends, as one row.
+    pub(crate) fn row(self) -> RowDraft
+        ensures { drafted result ≡ weighed self.entry }
+    {
+        RowDraft {
+            size: self.held.size,
+            squares: array::from_fn(|i| self.sum(Coefficient::Square(i))),
+            // A clause of its own: none is inferred for a closure that gives an array.
+            pairs: array::from_fn(
+                |i|
+                    ensures { Holds result ((weighed self.entry).pairs i) }
+                { self.pairs_from(i) },
+            ),
+            singles: array::from_fn(|i| self.sum(Coefficient::Single(i))),
+            low: None,
+            high: Some(self.bound()),
+        }
+    }
 }

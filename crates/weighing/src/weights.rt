@@ -1,6 +1,6 @@
 //! Weights for rows: their check, and the weighted sums of the rows.
 
-ghost use Rattle.std.specs.Prelude.{◌≡◌, map, None};
+ghost use Rattle.std.specs.Prelude.{◌≡◌, map};
 ghost use Rattle.model.specs.Drafts.{drafted};
 ghost use Rattle.weighing.specs.Refusals.{weigh_refusal};
 ghost use Rattle.weighing.specs.Weights.{aggregate};
@@ -8,10 +8,8 @@ ghost use Rattle.narrower.specs.Faults.{refusal_of};
 ghost use Rattle.weighing.specs.Weighed.{SumsAre};
 ghost use Rattle.weighing.specs.Laws.{AggregatedRowFollows};
 
-use crate::refusals::refusal;
-use crate::tables::{pairs, singles, squares};
-use crate::totals::bound;
-use model::draft::RowDraft;
+use crate::refusals::check;
+use crate::weighted::Weighted;
 use model::held_rows::HeldRows;
 use model::sums::Sums;
 use narrower::faults::ProposalFault;
@@ -23,24 +21,9 @@ pub fn weigh(held: HeldRows, weights: &[i64]) -> Result<Sums, ProposalFault>
     ensures sums { SumsAre result (aggregate held.entry.size weights.now (map drafted held.entry.rows.now)) }
     ensures law { AggregatedRowFollows }
 {
-    match refusal(weights, held.rows) {
-        Some(fault) => Err(fault),
-        None => Ok(Sums {
-            row: weighted_sums(held, weights),
-        }),
-    }
-}
-
-fn weighted_sums(held: HeldRows, weights: &[i64]) -> RowDraft
-    requires { weigh_refusal weights.now held.rows.now ≡ None }
-    ensures { drafted result ≡ aggregate held.entry.size weights.now (map drafted held.entry.rows.now) }
-{
-    RowDraft {
-        size: held.size,
-        squares: squares(held, weights),
-        pairs: pairs(held, weights),
-        singles: singles(held, weights),
-        low: None,
-        high: Some(bound(held, weights)),
-    }
+    check(weights, held.rows)?;
+    let weighted = Weighted { held, weights };
+    Ok(Sums {
+        row: weighted.row(),
+    })
 }

@@ -1,15 +1,12 @@
--- `all_zero` tells what `all_zero` tells.
-use Rattle.std.proofs.Common.{get_or, pos, w64, SFits, rules}
-use Rattle.model.proofs.Firsts.{every_more, every_not}
-use Rattle.weighing.proofs.Passing.{not_zero, zero_bits}
+-- `all` tells what `every` tells.
+use Rattle.std.proofs.Common.{pos, sym, ◌∙◌, rules, tests}
+use Rattle.std.proofs.lemmas.Iterator.{YieldsList-from_slice}
+use Rattle.std.proofs.lemmas.Iterator.Search.{all_from_yields_List}
+use Rattle.numbers.specs.Division.{is_zero}
+use Rattle.weighing.proofs.Chains.{every-list_all}
 use Rattle.weighing.proofs.refusals.all_zero.Goals as goal
 
-pub returns-then-weights-k-ne0 : goal.returns-then-weights-k-ne0
-returns-then-weights-k-ne0 c =
-    let f : SFits w64 (get_or c.args.weights.now c.loop-k.k (pos 0)) = search rules in
-    every_not _ _ _ c.loop-k-test.true (not_zero _ f c.if-weights-k-ne0.true)
-
-pub loop-k-preserved : goal.loop-k-preserved
-loop-k-preserved c =
-    let f : SFits w64 (get_or c.args.weights.now c.loop-k.k (pos 0)) = search rules in
-    every_more c.loop-k.k _ c.loop-k.invariant (zero_bits _ f c.if-weights-k-ne0.false)
+pub returns : goal.returns
+returns c =
+    all_from_yields_List is_zero _ _ _ c.all.ensures.ran (YieldsList-from_slice c.args.weights.now cc) (λ x b q k. search (rules, tests))
+    ∙ sym (every-list_all is_zero (pos 0) c.args.weights.now)
