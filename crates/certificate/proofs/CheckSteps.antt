@@ -1,26 +1,17 @@
 -- A check of weights and then of an order: how the code's parts come to the definitions.
-use Rattle.std.proofs.Common.{◌≡◌, ℕ, ◌≤◌, min, Bool, true, false, cond, eqb, List, length, ℤ, Some, None, Err, Option, Result, sym, refl, ap, ◌∙◌, ap₂, arith}
-use Rattle.std.proofs.lemmas.Bool.{eqb-true}
+use Rattle.std.proofs.Common.{◌≡◌, ℕ, ◌≤◌, min, List, length, ℤ, Some, None, Err, Option, Result, sym, ap, ◌∙◌, ap₂, arith}
 use Rattle.model.specs.declared.draft.RowDraft.{RowDraft}
 use Rattle.model.specs.Limits.{most_rows}
 use Rattle.model.specs.Rows.{Row}
 use Rattle.narrower.specs.declared.faults.ProposalFault.{ProposalFault}
-use Rattle.weighing.specs.Refusals.{or_else, heavy_at, all_zero, absent_at, weights_at, end_at, weigh_refusal}
+use Rattle.weighing.specs.Refusals.{or_else, weigh_refusal}
 use Rattle.weighing.specs.Marks.{marks_below, marks_of}
+use Rattle.weighing.proofs.Usable.{as_many}
 use Rattle.factoring.specs.declared.factored.Factored.{Factored}
 use Rattle.factoring.specs.Orders.{order_refusal}
 use Rattle.factoring.specs.Made.{Of}
 use Rattle.certificate.specs.Certificates.{Told, row_certificate, meaning_of}
 use Rattle.certificate.specs.Checks.{sums_of, check_refusal, proposed, written, checked_by, after_check}
-
--- weights that are not refused are as many as the rows
-as_many : (ws : List ℤ) (ds : List RowDraft) → weigh_refusal ws ds ≡ None → length ws ≡ length ds
-as_many ws ds e = by (eqb (length ws) (length ds)) refl e
-  where
-    by : (t : Bool) → eqb (length ws) (length ds) ≡ t
-        → or_else (weights_at (cond t (or_else (heavy_at ws) (cond (all_zero ws) (Some 0) None)) (Some 0))) (end_at (absent_at ws ds)) ≡ None → length ws ≡ length ds
-    by true f g = eqb-true (length ws) (length ds) f
-    by false f g = let z : ◌≡◌ {A = ℕ} 0 1 = cc in absurd (omega arith)
 
 module _ (n : ℕ) (ws : List ℤ) (ds : List RowDraft) (is : List ℕ) where
   -- the refusal of the weights is that of the check
