@@ -1,5 +1,5 @@
 -- What narrowing an open placement answers and leaves, from what its narrower answers and leaves.
-use Rattle.std.proofs.Common.{◌≡◌, ℕ, Bool, true, false, cond, eqb, List, ◌++◌, length, take, Some, None, Ok, Err, vec_items, Option, Result, sym, refl, ap, ◌∙◌, subst, arith}
+use Rattle.std.proofs.Common.{◌≡◌, ℕ, Bool, true, false, cond, eqb, List, ◌++◌, take, Some, None, Ok, Err, vec_items, Option, Result, sym, refl, ap, ◌∙◌, subst, arith}
 use Rattle.std.proofs.lemmas.List.{take_at}
 use Rattle.std.proofs.lemmas.Bool.{eqb-true}
 use Rattle.std.proofs.lemmas.Bool.Decides.{nat_tests}
@@ -17,13 +17,10 @@ use Rattle.narrower.specs.Faults.{raised}
 use Rattle.narrower.specs.Narrowings.{Narrowing, Lawful, Holds}
 use Rattle.narrower.specs.Answers.{sized, refusal, answered, answer_of, after_of}
 use Rattle.narrower.specs.Answers as run
-use Rattle.placement.specs.declared.standing.Standing.{Standing}
-use Rattle.placement.specs.declared.standing.Standing.TheVariants.{Open, Nowhere}
-use Rattle.placement.specs.declared.placement.Placement.{Placement}
-use Rattle.placement.specs.Held.{sound, kept}
-use Rattle.placement.specs.States.{State, state_of}
+use Rattle.placement.specs.declared.standing.Standing.TheVariants.{Open}
+use Rattle.placement.specs.declared.placement.Made.{Made}
+use Rattle.placement.specs.States.{State, standing_of, state_of_made}
 use Rattle.placement.specs.Narrows.{told, answer_at, narrow_answer, now_at, left_at, narrow_state, Keeps}
-use Rattle.placement.proofs.Boxing.{kept_of_sound, box_of_sound, sound_of_box}
 
 -- ---- a narrower's answer, passed on
 
@@ -32,21 +29,15 @@ abbrev pub passed : Result Answer NarrowFault → Result Answer PlacementFault
 passed (Ok a) = Ok a
 passed (Err e) = Err (raised e)
 
--- how the placement stands then
-abbrev pub standing_by : Result Answer NarrowFault → Standing
-standing_by (Ok Stood) = Open
-standing_by (Ok Narrowed) = Open
-standing_by (Ok Empty) = Nowhere
-standing_by (Err e) = Open
-
--- it is open after an answer other than none
-pub open_unless_none : (a : Answer) → (a ≡ Empty → ⊥) → Open ≡ standing_by (Ok a)
-open_unless_none Stood h = refl
-open_unless_none Narrowed h = refl
-open_unless_none Empty h = absurd (h refl)
+-- whether the placement stands at none then
+abbrev pub none_by : Result Answer NarrowFault → Bool
+none_by (Ok Stood) = false
+none_by (Ok Narrowed) = false
+none_by (Ok Empty) = true
+none_by (Err e) = false
 
 -- it is open where the map gives a box, the same or another
-open_at_box : (same : Bool) → standing_by (Ok (cond same Stood Narrowed)) ≡ Open
+open_at_box : (same : Bool) → standing_of (none_by (Ok (cond same Stood Narrowed))) ≡ Open
 open_at_box true = refl
 open_at_box false = refl
 
@@ -86,7 +77,7 @@ module _ (N : Narrowing) (s : State) (b : IsBox s.size s.box) where
 
   -- the state with the standing and the box by a refusal, if there is one, and what the map gives
   abbrev leaving : Option NarrowFault → Option (List Span) → State
-  leaving e o = record { standing = standing_by (answered e o s.box); size = s.size; box = run.kept e o s.box; rows = s.rows }
+  leaving e o = record { standing = standing_of (none_by (answered e o s.box)); size = s.size; box = run.kept e o s.box; rows = s.rows }
 
   -- the standing by the answer and the box that is left make up the placement's state
   state_open : s.standing ≡ Open → leaving (refusal N.size s.box) (N.map s.box) ≡ left_at Open N s
@@ -126,7 +117,7 @@ module _ (N : Narrowing) (s : State) (b : IsBox s.size s.box) where
         by false e = (at, i)
         by true e = given (N.map s.box) (law.keeping s.box (box_for e) x i m)
 
--- ---- a narrowing of a placement
+-- ---- a narrowing of a made placement
 
 -- the narrower answered r, the placement had the state s and has the state t
 pub record Step (N : Narrowing) (s : State) (r : Result Answer NarrowFault) (t : State) : Type 0 where
@@ -134,48 +125,43 @@ pub record Step (N : Narrowing) (s : State) (r : Result Answer NarrowFault) (t :
   pub after : t ≡ narrow_state N s
   pub keeps : Keeps N s t
 
--- of the box of an open placement the narrower left the run V, beside which the other spans T stand
-module _ (N : Narrowing) (law : Lawful N) (p : Placement) (at : p.standing ≡ Open) (long : length (state_of p).box ≡ p.size) (V T : List Span) (left : V ≡ after_of N (state_of p).box) where
-  -- the placement was sound
-  sound_before : sound p.size p.spans (vec_items p.rows) ≡ true
-  sound_before = subst (λ st. kept st p.size p.spans (vec_items p.rows) ≡ true) at p.held
-
-  -- it had a box
-  box_before : IsBox p.size (state_of p).box
-  box_before = box_of_sound p.size p.spans (vec_items p.rows) sound_before long
-
+-- of the box the narrower left the run V, beside which the other spans T stand
+module _ (N : Narrowing) (law : Lawful N) (m : Made) (V T : List Span) (left : V ≡ after_of N (take m.size m.spans)) where
   -- it has a box
-  box_after : IsBox p.size V
-  box_after = subst (IsBox p.size) (sym left) (box_left N (state_of p) box_before law)
+  box_after : IsBox m.size V
+  box_after = subst (IsBox m.size) (sym left) (box_left N (state_of_made m) m.on_box law)
 
   -- which stands in its first spans
-  first_left : take p.size (V ++ T) ≡ V
-  first_left = take_at V T p.size box_after.long
+  first_left : take m.size (V ++ T) ≡ V
+  first_left = take_at V T m.size box_after.long
 
-  -- what is held is kept, however the placement stands
-  pub kept-after : (st : Standing) → kept st p.size (V ++ T) (vec_items p.rows) ≡ true
-  kept-after st = kept_of_sound st _ _ _ (sound_of_box p.size p.spans (vec_items p.rows) sound_before (V ++ T) box_before (subst (IsBox p.size) (sym first_left) box_after))
+  -- so these are a box
+  pub box_kept : IsBox m.size (take m.size (V ++ T))
+  box_kept = subst (IsBox m.size) (sym first_left) box_after
 
-  -- the state of a standing and the spans
-  abbrev left-at : Standing → State
-  left-at st = record { standing = st; size = p.size; box = take p.size (V ++ T); rows = vec_items p.rows }
+  -- the state with the spans, at none or not
+  abbrev left_with : Bool → State
+  left_with none = record { standing = standing_of none; size = m.size; box = take m.size (V ++ T); rows = vec_items m.rows }
 
-  -- the narrower's answer passed on, with the standing by it, is one narrowing
-  pub step_at_lem : {r : Result Answer NarrowFault} → r ≡ answer_of N (state_of p).box → (st : Standing) → st ≡ standing_by r → Step N (state_of p) r (left-at st)
-  step_at_lem {r} e st stands = record {
-    answer = ap passed e ∙ answer_open N (state_of p) box_before ∙ sym (ap (λ v. answer_at v N (state_of p)) at);
-    after = open_after ∙ sym (ap (λ v. left_at v N (state_of p)) at);
-    keeps = subst (Keeps N (state_of p)) (sym open_after) (keeps_open N (state_of p) box_before law at);
+  -- the narrower's answer passed on, with the standing by it, is one narrowing of an open placement
+  pub step_made : m.at_none ≡ false → {r : Result Answer NarrowFault} → r ≡ answer_of N (take m.size m.spans) → (none : Bool) → none ≡ none_by r → Step N (state_of_made m) r (left_with none)
+  step_made going {r} e none stands = record {
+    answer = ap passed e ∙ answer_open N (state_of_made m) m.on_box ∙ sym (ap (λ v. answer_at v N (state_of_made m)) at);
+    after = open_after ∙ sym (ap (λ v. left_at v N (state_of_made m)) at);
+    keeps = subst (Keeps N (state_of_made m)) (sym open_after) (keeps_open N (state_of_made m) m.on_box law at);
   }
     where
-      stood : st ≡ standing_by (answer_of N (state_of p).box)
-      stood = stands ∙ ap standing_by e
+      at : (state_of_made m).standing ≡ Open
+      at = ap standing_of going
 
-      box_now : take p.size (V ++ T) ≡ after_of N (state_of p).box
+      stood : none ≡ none_by (answer_of N (take m.size m.spans))
+      stood = stands ∙ ap none_by e
+
+      box_now : take m.size (V ++ T) ≡ after_of N (take m.size m.spans)
       box_now = first_left ∙ left
 
-      as_left : left-at st ≡ leaving N (state_of p) box_before (refusal N.size (state_of p).box) (N.map (state_of p).box)
-      as_left = λ i. record { standing = stood i; size = p.size; box = box_now i; rows = vec_items p.rows }
+      as_left : left_with none ≡ leaving N (state_of_made m) m.on_box (refusal N.size (take m.size m.spans)) (N.map (take m.size m.spans))
+      as_left = λ i. record { standing = standing_of (stood i); size = m.size; box = box_now i; rows = vec_items m.rows }
 
-      open_after : left-at st ≡ left_at Open N (state_of p)
-      open_after = as_left ∙ state_open N (state_of p) box_before at
+      open_after : left_with none ≡ left_at Open N (state_of_made m)
+      open_after = as_left ∙ state_open N (state_of_made m) m.on_box at

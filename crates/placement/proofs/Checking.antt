@@ -1,33 +1,18 @@
--- What checking answers and writes once the placement is made, from what the certificate's own check answers and writes.
-use Rattle.std.proofs.Common.{◌≡◌, ℕ, Some, None, Ok, Err, Option, Result, refl, ap, arith}
-use Rattle.narrower.specs.declared.faults.ProposalFault.{ProposalFault}
-use Rattle.narrower.specs.declared.faults.PlacementFault.{PlacementFault}
-use Rattle.narrower.specs.declared.faults.PlacementFault.TheVariants.{Proposal}
+-- What checking writes once the placement is made.
+use Rattle.std.proofs.Common.{◌≡◌, ℕ, Bool, true, false, List, ℤ, Some, vec_items, refl, ap, ◌∙◌}
 use Rattle.certificate.specs.Certificates.{Told}
-use Rattle.certificate.specs.Checks.{proposed}
-use Rattle.placement.specs.declared.standing.Standing.{Standing}
-use Rattle.placement.specs.declared.standing.Standing.TheVariants.{Unmade, Open, Nowhere}
-use Rattle.placement.specs.Reads.{made}
-use Rattle.placement.specs.Checks.{passed_up, once_made}
+use Rattle.certificate.specs.Checks.{after_check}
+use Rattle.placement.specs.declared.placement.Placement.{Placement}
+use Rattle.placement.specs.declared.placement.Made.{Made}
+use Rattle.placement.specs.States.{standing_of, state_with, state_of}
+use Rattle.placement.specs.Checks.{once_made, check_told}
 
--- a made placement answers
-pub answers_made : {A : Type 0} (st : Standing) (r : Result A PlacementFault) → (st ≡ Unmade → ⊥) → r ≡ made st r
-answers_made Unmade r h = absurd (h refl)
-answers_made Open r h = refl
-answers_made Nowhere r h = refl
+-- at none or not, what is written is told
+told_once : (none : Bool) (new old : Told) → once_made (standing_of none) new old ≡ new
+told_once true new old = refl
+told_once false new old = refl
 
--- and what is written is told
-pub tells_made : (st : Standing) (new old : Told) → (st ≡ Unmade → ⊥) → new ≡ once_made st new old
-tells_made Unmade new old h = absurd (h refl)
-tells_made Open new old h = refl
-tells_made Nowhere new old h = refl
-
--- an accepted proposal is accepted
-pub passed_ok : (o : Option ProposalFault) → Ok tt ≡ proposed o → Ok tt ≡ passed_up o
-passed_ok None h = refl
-passed_ok (Some e) h = let z : ◌≡◌ {A = ℕ} 0 1 = cc in absurd (omega arith)
-
--- a refused one is passed up whole
-pub passed_err : (o : Option ProposalFault) (e : ProposalFault) → Err e ≡ proposed o → Err (Proposal e) ≡ passed_up o
-passed_err None e h = let z : ◌≡◌ {A = ℕ} 0 1 = cc in absurd (omega arith)
-passed_err (Some d) e h = let f : e ≡ d = cc in ap (λ x. Err (Proposal x)) f
+-- what is told is what the check of the rows that are held writes
+pub told_made : (p : Placement) (m : Made) → p.made ≡ Some m → (ws : List ℤ) (is : List ℕ) (t : Told)
+    → check_told ws is (state_of p) t ≡ after_check m.size ws (vec_items m.rows) is t
+told_made p m e ws is t = ap (λ o. check_told ws is (state_with o) t) e ∙ told_once m.at_none (after_check m.size ws (vec_items m.rows) is t) t

@@ -13,11 +13,12 @@ use Rattle.narrower.specs.LayerLaws.{pair_lawful, rounds_lawful, star_lawful}
 use Rattle.placement.specs.declared.standing.Standing.{Standing}
 use Rattle.placement.specs.declared.standing.Standing.TheVariants.{Unmade, Open, Nowhere}
 use Rattle.placement.specs.States.{State}
+use Rattle.placement.specs.Makes.{opened}
 use Rattle.placement.specs.Narrows.{now_at}
 use Rattle.placement.specs.Runs.{Makeable, newly, Act, ends, Used, Pile, single, pair, rounds, star}
 use Rattle.placement.specs.Promises.{Piled, SpeakingFor, Still, LosesNothing, RunKeeps, Settled, UsedInEither, Agree, TheLastBoxLiesInTheFirst, NoRunLosesAPoint, SettledRunsAgree}
 use Rattle.placement.proofs.Walking.{every_run}
-use Rattle.placement.proofs.NewPlacements.{opened, newly_open, new_box}
+use Rattle.placement.proofs.NewPlacements.{newly_open, new_box}
 
 -- a pile keeps the laws
 pub pile_lawful : {N : Narrowing} → Pile N → Lawful N

@@ -1,5 +1,4 @@
 -- What a placement holds, what making, narrowing, reading and checking it answer and leave, and what every run of calls keeps.
-pub mod Held
 pub mod States
 pub mod Makes
 pub mod Narrows

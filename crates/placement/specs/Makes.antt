@@ -7,7 +7,7 @@ use Rattle.model.specs.Boxes.{bad_span}
 use Rattle.model.specs.Rows.{size_fits}
 use Rattle.model.specs.Drafts.{bad_row}
 use Rattle.narrower.specs.declared.faults.PlacementFault.{PlacementFault}
-use Rattle.narrower.specs.declared.faults.PlacementFault.TheVariants.{Size, BadSpan, BadRow, AlreadyMade}
+use Rattle.narrower.specs.declared.faults.PlacementFault.TheVariants.{Size, BadSpan, TooManyRows, BadRow, AlreadyMade}
 use Rattle.placement.specs.declared.standing.Standing.{Standing}
 use Rattle.placement.specs.declared.standing.Standing.TheVariants.{Unmade, Open, Nowhere}
 use Rattle.placement.specs.States.{State, refused_by}
@@ -19,7 +19,7 @@ at_row (Some k) = Some (BadRow k)
 
 -- what is refused of the rows: too many, then the first at fault
 abbrev pub rows_refusal : ℕ → List RowDraft → Option PlacementFault
-rows_refusal n ds = cond (nat_le (length ds) most_rows) (at_row (bad_row n ds)) (Some (BadRow 0))
+rows_refusal n ds = cond (nat_le (length ds) most_rows) (at_row (bad_row n ds)) (Some TooManyRows)
 
 -- the refusal of the span at a place, or else what is refused of the rows
 abbrev pub at_span : Option ℕ → Option PlacementFault → Option PlacementFault
@@ -40,9 +40,13 @@ make_refusal Nowhere n X ds = Some AlreadyMade
 abbrev pub make_answer : State → ℕ → List Span → List RowDraft → Result (Unit {0}) PlacementFault
 make_answer s n X ds = refused_by (make_refusal s.standing n X ds)
 
+-- an open placement of the size, the run and the rows
+abbrev pub opened : ℕ → List Span → List RowDraft → State
+opened n X ds = record { standing = Open; size = n; box = X; rows = ds }
+
 -- the state that is left: what was handed over, and the state as it was on a refusal
 abbrev pub made_by : Option PlacementFault → State → ℕ → List Span → List RowDraft → State
-made_by None s n X ds = record { standing = Open; size = n; box = X; rows = ds }
+made_by None s n X ds = opened n X ds
 made_by (Some e) s n X ds = s
 
 -- the state after making

@@ -5,7 +5,7 @@ use Rattle.model.specs.declared.draft.RowDraft.{RowDraft}
 use Rattle.model.specs.declared.held.HeldRow.{HeldRow}
 use Rattle.model.specs.Drafts.{blank}
 use Rattle.narrower.specs.declared.faults.PlacementFault.{PlacementFault}
-use Rattle.narrower.specs.declared.faults.PlacementFault.TheVariants.{NotMade, BadRow}
+use Rattle.narrower.specs.declared.faults.PlacementFault.TheVariants.{NotMade, NoSuchRow}
 use Rattle.placement.specs.declared.standing.Standing.{Standing}
 use Rattle.placement.specs.declared.standing.Standing.TheVariants.{Unmade, Open, Nowhere}
 use Rattle.placement.specs.States.{State}
@@ -30,7 +30,7 @@ read_standing s = made s.standing (Ok s.standing)
 
 -- the row of a number from 1 to the number of rows
 abbrev pub row_at : ℕ → List RowDraft → Result RowDraft PlacementFault
-row_at k ds = cond (nat_lt 0 k && nat_le k (length ds)) (Ok (slice_index_or ds (k - 1) (blank 0))) (Err (BadRow 0))
+row_at k ds = cond (nat_lt 0 k && nat_le k (length ds)) (Ok (slice_index_or ds (k - 1) (blank 0))) (Err NoSuchRow)
 
 -- the row with the number k
 abbrev pub read_row : ℕ → State → Result RowDraft PlacementFault

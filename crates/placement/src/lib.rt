@@ -4,6 +4,7 @@
 
 pub mod call;
 mod calls;
+mod made;
 pub mod placement;
 mod runs;
 pub mod standing;

@@ -43,8 +43,8 @@ impl Placement {
         ensures witnesses { ThePromisesCanBeMet }
     {
         let mut refused: usize = 0;
-        for i in 0..calls.len() {
-            if !self.make_call(&mut calls[i]) {
+        for call in calls.iter_mut() {
+            if !self.make_call(call) {
                 refused += 1;
             }
         }
