@@ -1,18 +1,17 @@
 -- What a problem holds, and what is handed over of it.
-use Rattle.std.specs.Prelude.{ℕ, min, List, [], take, replicate, ℤ, pos, negsuc, None, vec_items, Option}
+use Rattle.std.specs.Prelude.{ℕ, min, List, [], take, replicate, ℤ, pos, negsuc, None, Option}
 use Rattle.std.specs.Option.{unwrap_or}
 use Rattle.model.specs.declared.span.Span.{Span}
 use Rattle.model.specs.declared.draft.RowDraft.{RowDraft}
 use Rattle.model.specs.Limits.{most_coordinates}
 use Rattle.model.specs.Boxes.{span}
-use Rattle.tighten.specs.declared.problem.Problem.{Problem}
 
 -- a number that counts from 1, as those of coordinates and rows do; 0 stands for all that are below 1
 abbrev pub ordinal_of : ℤ → ℕ
 ordinal_of (pos n) = n
 ordinal_of (negsuc n) = 0
 
--- a size, if it is given, nine spans and rows
+-- what a problem holds: a size, if it is given, nine spans and rows
 pub record Contents : Type 0 where
   pub size : Option ℕ
   pub spans : List Span
@@ -21,10 +20,6 @@ pub record Contents : Type 0 where
 -- of a problem that is not described yet: no size, the widest spans and no rows
 abbrev pub unknown : Contents
 unknown = record { size = None; spans = replicate most_coordinates (span (negsuc 4095) (pos 4096)); rows = [] }
-
--- what a problem holds
-abbrev pub contents_of : Problem → Contents
-contents_of p = record { size = p.size; spans = p.spans; rows = vec_items p.rows }
 
 -- the size, or 0 where none is given
 abbrev pub size_of : Contents → ℕ

@@ -98,6 +98,10 @@ abbrev pub line_left : Result Contents Wrong → Contents → Contents
 line_left (Ok q) p = q
 line_left (Err e) p = p
 
+-- a line is taken in
+abbrev pub Taken : Result (Unit {0}) Wrong → Result Contents Wrong → Contents → Contents → Type 0
+Taken r t p q = (r ≡ line_answer t) × (q ≡ line_left t p)
+
 -- a line is taken in, or there is no memory for it and the problem stays as it was
 abbrev pub TakenIn : Result (Unit {0}) Wrong → Result Contents Wrong → Contents → Contents → Type 0
-TakenIn r t p q = ((r ≡ line_answer t) × (q ≡ line_left t p)) ⊎ ((r ≡ Err Memory) × (q ≡ p))
+TakenIn r t p q = Taken r t p q ⊎ ((r ≡ Err Memory) × (q ≡ p))

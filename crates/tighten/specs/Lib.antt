@@ -1,4 +1,5 @@
 pub mod Contents
 pub mod Descriptions
 pub mod Calls
+pub mod Runs
 pub mod Obeying

@@ -136,10 +136,7 @@ fn parse_below_rounds<'a>(words: &mut Words<'a>) -> Result<(Layers, &'a str), Wr
 /// What stands after `rounds`.
 fn parse_rounds<'a>(words: &mut Words<'a>) -> Result<usize, Wrong<'a>> {
     let given = words.number("the number of rounds")?;
-    match usize::try_from(given) {
-        Ok(rounds) => Ok(rounds),
-        Err(_) => Err(Wrong::NegativeRounds(given)),
-    }
+    usize::try_from(given).map_err(|_| Wrong::NegativeRounds(given))
 }
 
 /// The row of a narrower that starts with a word.

@@ -22,17 +22,10 @@ use std::process::ExitCode;
 fn run(rt: &HostRuntime) -> Result<(), Failure> {
     let heap = rt.alloc();
     let mut session = Session::new(heap);
-    let mut number = 0u64;
     // Making a reader fails for want of memory alone.
-    let Ok(input) = BufReader::new(heap, rt.stdin()) else {
-        return Err(Failure::Memory);
-    };
-    for line in input.lines(heap) {
-        number = number.saturating_add(1);
-        let line = match line {
-            Ok(line) => line,
-            Err(error) => return Err(Failure::Input(number, error)),
-        };
+    let input = BufReader::new(heap, rt.stdin()).map_err(|_| Failure::Memory)?;
+    for (number, line) in (1..).zip(input.lines(heap)) {
+        let line = line.map_err(|error| Failure::Input(number, error))?;
         match session.obey(line.as_str()) {
             Ok(None) => {}
             Ok(Some(reply)) => println!(rt; "{reply}")?,

@@ -1,8 +1,8 @@
 //! The problem as it is described so far.
 
 ghost use Rattle.std.specs.Prelude.{◌≡◌, ◌<◌, IfOk};
-ghost use Rattle.tighten.specs.Contents.{contents_of, unknown, size_of, box_of};
-ghost use Rattle.tighten.specs.Descriptions.{index_in, taken, line_answer, line_left, TakenIn};
+ghost use Rattle.tighten.specs.Contents.{Contents, unknown, size_of, box_of};
+ghost use Rattle.tighten.specs.Descriptions.{index_in, taken, Taken, TakenIn};
 
 use crate::command::{Description, ordinal};
 use crate::wrong::Wrong;
@@ -10,6 +10,7 @@ use model::draft::RowDraft;
 use model::limits::{BOX_LIMIT, MOST_COORDINATES};
 use model::span::Span;
 use std::alloc::{AllocError, Global};
+use std::marker::Model;
 
 /// What a span is that is not given.
 const WIDEST: Span = Span {
@@ -25,10 +26,16 @@ pub struct Problem {
     rows: Vec<RowDraft>,
 }
 
+impl Model for Problem {
+    ghost Value = { Contents };
+
+    ghost view = { λ p. record { size = p.size; spans = p.spans; rows = p.rows.items } };
+}
+
 impl Problem {
     /// A problem of which nothing is known.
     pub fn new(heap: Global) -> Problem
-        ensures { contents_of result ≡ unknown }
+        ensures { result ≡ unknown }
     {
         Problem {
             size: None,
@@ -39,14 +46,14 @@ impl Problem {
 
     /// The size, or 0 where none is given.
     pub fn size(&self) -> usize
-        ensures { result ≡ size_of (contents_of self.now) }
+        ensures { result ≡ size_of self.now }
     {
         self.size.unwrap_or(0)
     }
 
     /// The spans of the coordinates, of which there are never more than nine.
     pub fn spans(&self) -> &[Span]
-        ensures { result.now ≡ box_of (contents_of self.now) }
+        ensures { result.now ≡ box_of self.now }
     {
         let n = self.size().min(MOST_COORDINATES);
         &self.spans[0..n]
@@ -54,14 +61,14 @@ impl Problem {
 
     /// A copy of the rows.
     pub fn rows(&self, heap: Global) -> Result<Vec<RowDraft>, AllocError>
-        ensures { IfOk result (λ v. v.items ≡ (contents_of self.now).rows) }
+        ensures { IfOk result (λ v. v.items ≡ self.now.rows) }
     {
         Vec::from_slice(heap, &self.rows)
     }
 
     /// Takes in a line. A span, a term or an end that is given again replaces the earlier one, so that what is refused can be put right.
     pub fn describe<'a>(&mut self, line: Description) -> Result<(), Wrong<'a>>
-        ensures { TakenIn result (taken line (contents_of self.old)) (contents_of self.old) (contents_of self.new) }
+        ensures { TakenIn result (taken line self.old) self.old self.new }
     {
         match line {
             Description::Size(size) => self.set_size(size),
@@ -76,8 +83,7 @@ impl Problem {
     }
 
     fn set_size<'a>(&mut self, given: i64) -> Result<(), Wrong<'a>>
-        ensures answer { result ≡ line_answer (taken (Description.Size given) (contents_of self.old)) }
-        ensures after { contents_of self.new ≡ line_left (taken (Description.Size given) (contents_of self.old)) (contents_of self.old) }
+        ensures { Taken result (taken (Description.Size given) self.old) self.old self.new }
     {
         if self.size.is_some() {
             return Err(Wrong::SizeAgain);
@@ -109,8 +115,7 @@ impl Problem {
     }
 
     fn set_span<'a>(&mut self, i: i64, span: Span) -> Result<(), Wrong<'a>>
-        ensures answer { result ≡ line_answer (taken (Description.Span i span) (contents_of self.old)) }
-        ensures after { contents_of self.new ≡ line_left (taken (Description.Span i span) (contents_of self.old)) (contents_of self.old) }
+        ensures { Taken result (taken (Description.Span i span) self.old) self.old self.new }
     {
         let i = self.index(i)?;
         self.spans[i] = span;
@@ -118,7 +123,7 @@ impl Problem {
     }
 
     fn start_row<'a>(&mut self) -> Result<(), Wrong<'a>>
-        ensures { TakenIn result (taken Description.Row (contents_of self.old)) (contents_of self.old) (contents_of self.new) }
+        ensures { TakenIn result (taken Description.Row self.old) self.old self.new }
     {
         let Some(size) = self.size else {
             return Err(Wrong::NoSize);
@@ -128,8 +133,7 @@ impl Problem {
     }
 
     fn set_square<'a>(&mut self, i: i64, coefficient: Span) -> Result<(), Wrong<'a>>
-        ensures answer { result ≡ line_answer (taken (Description.Square i coefficient) (contents_of self.old)) }
-        ensures after { contents_of self.new ≡ line_left (taken (Description.Square i coefficient) (contents_of self.old)) (contents_of self.old) }
+        ensures { Taken result (taken (Description.Square i coefficient) self.old) self.old self.new }
     {
         let i = self.index(i)?;
         let Some(row) = self.rows.last_mut() else {
@@ -140,8 +144,7 @@ impl Problem {
     }
 
     fn set_pair<'a>(&mut self, i: i64, j: i64, coefficient: Span) -> Result<(), Wrong<'a>>
-        ensures answer { result ≡ line_answer (taken (Description.Pair i j coefficient) (contents_of self.old)) }
-        ensures after { contents_of self.new ≡ line_left (taken (Description.Pair i j coefficient) (contents_of self.old)) (contents_of self.old) }
+        ensures { Taken result (taken (Description.Pair i j coefficient) self.old) self.old self.new }
     {
         let first = self.index(i)?;
         let second = self.index(j)?;
@@ -156,8 +159,7 @@ impl Problem {
     }
 
     fn set_single<'a>(&mut self, i: i64, coefficient: Span) -> Result<(), Wrong<'a>>
-        ensures answer { result ≡ line_answer (taken (Description.Single i coefficient) (contents_of self.old)) }
-        ensures after { contents_of self.new ≡ line_left (taken (Description.Single i coefficient) (contents_of self.old)) (contents_of self.old) }
+        ensures { Taken result (taken (Description.Single i coefficient) self.old) self.old self.new }
     {
         let i = self.index(i)?;
         let Some(row) = self.rows.last_mut() else {
@@ -168,8 +170,7 @@ impl Problem {
     }
 
     fn set_low<'a>(&mut self, low: i64) -> Result<(), Wrong<'a>>
-        ensures answer { result ≡ line_answer (taken (Description.AtLeast low) (contents_of self.old)) }
-        ensures after { contents_of self.new ≡ line_left (taken (Description.AtLeast low) (contents_of self.old)) (contents_of self.old) }
+        ensures { Taken result (taken (Description.AtLeast low) self.old) self.old self.new }
     {
         let Some(row) = self.rows.last_mut() else {
             return Err(Wrong::NoRow);
@@ -179,8 +180,7 @@ impl Problem {
     }
 
     fn set_high<'a>(&mut self, high: i64) -> Result<(), Wrong<'a>>
-        ensures answer { result ≡ line_answer (taken (Description.AtMost high) (contents_of self.old)) }
-        ensures after { contents_of self.new ≡ line_left (taken (Description.AtMost high) (contents_of self.old)) (contents_of self.old) }
+        ensures { Taken result (taken (Description.AtMost high) self.old) self.old self.new }
     {
         let Some(row) = self.rows.last_mut() else {
             return Err(Wrong::NoRow);

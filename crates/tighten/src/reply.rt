@@ -24,30 +24,14 @@ pub enum Reply {
 impl fmt::Display for Reply {
     fn fmt<W: fmt::Write>(&self, f: &mut fmt::Formatter<W>) -> fmt::Result {
         match self {
-            Reply::Made => write!(f, "made"),
-            Reply::Narrowing(answer) => f.write_str(answer_word(*answer)),
-            Reply::Rounds(answer, told) => write!(f, "{} told {told}", answer_word(*answer)),
+            Reply::Made => f.write_str("made"),
+            Reply::Narrowing(answer) => write!(f, "{answer}"),
+            Reply::Rounds(answer, told) => write!(f, "{answer} told {told}"),
             Reply::Size(size) => write!(f, "size {size}"),
             Reply::Box(text) => write!(f, "{text}"),
-            Reply::Standing(standing) => write!(f, "standing {}", standing_word(*standing)),
+            Reply::Standing(standing) => write!(f, "standing {standing}"),
             Reply::Row(k, row) => write!(f, "row {k}: {}", RowText(row)),
             Reply::Refused(refusal) => write!(f, "{refusal}"),
         }
-    }
-}
-
-fn answer_word(answer: Answer) -> &'static str {
-    match answer {
-        Answer::Stood => "stood",
-        Answer::Narrowed => "narrowed",
-        Answer::Empty => "none",
-    }
-}
-
-fn standing_word(standing: Standing) -> &'static str {
-    match standing {
-        Standing::Unmade => "unmade",
-        Standing::Open => "open",
-        Standing::Nowhere => "none",
     }
 }

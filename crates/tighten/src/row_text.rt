@@ -1,10 +1,5 @@
 //! A row as a person reads it.
-
-ghost use Rattle.std.specs.Prelude.{◌<◌};
-
-use crate::spans_text::SpanText;
 use model::draft::RowDraft;
-use model::limits::MOST_COORDINATES;
 use model::span::Span;
 use std::fmt;
 
@@ -15,110 +10,86 @@ pub struct RowText<'a>(pub &'a RowDraft);
 impl<'a> fmt::Display for RowText<'a> {
     fn fmt<W: fmt::Write>(&self, f: &mut fmt::Formatter<W>) -> fmt::Result {
         let row = self.0;
-        let started = write_squares(row, f)?;
-        let started = write_pairs(row, f, started)?;
-        let started = write_singles(row, f, started)?;
-        if !started {
-            write!(f, "0")?;
+        let mut terms = Terms { f, started: false };
+        terms.write_each(&row.squares, 0, |i| Variables::Square(i))?;
+        for (i, pairs) in (1..).zip(&row.pairs) {
+            terms.write_each(pairs, i, |j| Variables::Pair(i, j))?;
         }
+        terms.write_each(&row.singles, 0, |i| Variables::Single(i))?;
+        terms.end()?;
         write_side(row.low, row.high, f)
     }
 }
 
-/// Writes the squares, and tells whether there is one.
-fn write_squares<W: fmt::Write>(
-    row: &RowDraft,
-    f: &mut fmt::Formatter<W>,
-) -> Result<bool, fmt::Error> {
-    let mut started = false;
-    for i in 0..MOST_COORDINATES {
-        let span = row.squares[i];
-        if !is_zero(span) {
-            write_coefficient(span, f, started)?;
-            write!(f, "x{}^2", i + 1)?;
-            started = true;
+/// What a coefficient is multiplied with, by coordinates that count from 1.
+#[derive(Clone, Copy)]
+enum Variables {
+    Square(usize),
+    Pair(usize, usize),
+    Single(usize),
+}
+
+/// As `x1^2`, `x1 x2` or `x2`.
+impl fmt::Display for Variables {
+    fn fmt<W: fmt::Write>(&self, f: &mut fmt::Formatter<W>) -> fmt::Result {
+        match self {
+            Variables::Square(i) => write!(f, "x{i}^2"),
+            Variables::Pair(i, j) => write!(f, "x{i} x{j}"),
+            Variables::Single(i) => write!(f, "x{i}"),
         }
     }
-    Ok(started)
 }
 
-/// Writes the pairs after what has been written, and tells whether anything is written now.
-fn write_pairs<W: fmt::Write>(
-    row: &RowDraft,
-    f: &mut fmt::Formatter<W>,
-    before: bool,
-) -> Result<bool, fmt::Error> {
-    let mut started = before;
-    for i in 0..MOST_COORDINATES {
-        started = write_pairs_of(row, i, f, started)?;
+/// A sum that is being written, and whether it has a term yet.
+#[derive(Drop)]
+struct Terms<'f, W> {
+    f: &'f mut fmt::Formatter<W>,
+    started: bool,
+}
+
+impl<'f, W: fmt::Write> Terms<'f, W> {
+    /// Writes the terms of a run of coefficients, but for the first ones that are to be skipped. What the k-th is multiplied with is `of(k)`.
+    fn write_each<F: Fn(usize) -> Variables>(
+        &mut self,
+        spans: &[Span],
+        skipped: usize,
+        of: F,
+    ) -> fmt::Result
+        requires { F.IsAlwaysCallable of }
+    {
+        for (k, span) in (1..).zip(spans).skip(skipped) {
+            self.write(*span, of(k))?;
+        }
+        Ok(())
     }
-    Ok(started)
-}
 
-/// Writes the pairs of a coordinate with a later one, and tells whether anything is written now.
-fn write_pairs_of<W: fmt::Write>(
-    row: &RowDraft,
-    i: usize,
-    f: &mut fmt::Formatter<W>,
-    before: bool,
-) -> Result<bool, fmt::Error>
-    requires { i < 9 }
-{
-    let mut started = before;
-    for j in i + 1..MOST_COORDINATES {
-        let span = row.pairs[i][j];
-        if !is_zero(span) {
-            write_coefficient(span, f, started)?;
-            write!(f, "x{} x{}", i + 1, j + 1)?;
-            started = true;
+    /// Writes a term with the sign before it. One with the coefficient 0 is left out.
+    fn write(&mut self, coefficient: Span, of: Variables) -> fmt::Result {
+        let Span { low, high } = coefficient;
+        if low == 0 && high == 0 {
+            return Ok(());
+        }
+        let sign = match (self.started, low == high && low < 0) {
+            (true, true) => return write!(self.f, " - {} {of}", low.unsigned_abs()),
+            (true, false) => " + ",
+            (false, _) => "",
+        };
+        self.started = true;
+        if low == high {
+            write!(self.f, "{sign}{low} {of}")
+        } else {
+            write!(self.f, "{sign}{coefficient} {of}")
         }
     }
-    Ok(started)
-}
 
-/// Writes the singles after what has been written, and tells whether anything is written now.
-fn write_singles<W: fmt::Write>(
-    row: &RowDraft,
-    f: &mut fmt::Formatter<W>,
-    before: bool,
-) -> Result<bool, fmt::Error> {
-    let mut started = before;
-    for i in 0..MOST_COORDINATES {
-        let span = row.singles[i];
-        if !is_zero(span) {
-            write_coefficient(span, f, started)?;
-            write!(f, "x{}", i + 1)?;
-            started = true;
+    /// Writes the sum of no terms, where there was none.
+    fn end(self) -> fmt::Result {
+        if self.started {
+            Ok(())
+        } else {
+            self.f.write_str("0")
         }
     }
-    Ok(started)
-}
-
-/// Writes a coefficient and the sign before it, where `after` tells whether a term stands before it.
-fn write_coefficient<W: fmt::Write>(
-    span: Span,
-    f: &mut fmt::Formatter<W>,
-    after: bool,
-) -> fmt::Result {
-    let thin = span.low == span.high;
-    if after && thin && span.low < 0 {
-        let magnitude = span.low.unsigned_abs();
-        return write!(f, " - {magnitude} ");
-    }
-    if after {
-        write!(f, " + ")?;
-    }
-    if thin {
-        let number = span.low;
-        write!(f, "{number} ")
-    } else {
-        write!(f, "{} ", SpanText(span))
-    }
-}
-
-/// Whether a coefficient is 0, so that its term is left out.
-fn is_zero(span: Span) -> bool {
-    span.low == 0 && span.high == 0
 }
 
 /// Writes what the sum is held to.

@@ -3,11 +3,11 @@
 ghost use Rattle.std.specs.Prelude.{◌≡◌, IfOk, OnErr, OnOk};
 ghost use Rattle.placement.specs.States.{state_of, unmade};
 ghost use Rattle.placement.specs.Makes.{make_answer, make_state};
-ghost use Rattle.placement.specs.Narrows.{narrow_answer, narrow_state};
-ghost use Rattle.narrower.specs.Layers.{rounds_of, star_of};
+ghost use Rattle.narrower.specs.Layers.{rounds_of};
 ghost use Rattle.tighten.specs.declared.reply.Reply.TheVariants as reply;
-ghost use Rattle.tighten.specs.Contents.{contents_of, unknown, size_of, box_of, ordinal_of};
+ghost use Rattle.tighten.specs.Contents.{unknown, size_of, box_of};
 ghost use Rattle.tighten.specs.Descriptions.{taken_at, TakenIn};
+ghost use Rattle.tighten.specs.Runs.{Run, Narrows};
 ghost use Rattle.tighten.specs.Obeying.{Obeyed};
 ghost use Rattle.tighten.specs.Calls.{told, untold, untold_answer, reply_to, reply_by, layered, narrow_reply, narrow_left, read_answer, call_reply, call_state};
 
@@ -28,6 +28,7 @@ use narrower::star::Star;
 use placement::placement::Placement;
 use placement::standing::Standing;
 use std::alloc::{AllocError, Global};
+use std::marker::Model;
 
 /// A problem, its placement, and how many calls there were and how many of them were refused.
 #[derive(Drop)]
@@ -39,10 +40,16 @@ pub struct Session {
     refused: u64,
 }
 
+impl Model for Session {
+    ghost Value = { Run };
+
+    ghost view = { λ s. record { problem = s.problem; state = state_of s.placement } };
+}
+
 impl Session {
     /// A run before its first line.
     pub fn new(heap: Global) -> Session
-        ensures { (contents_of result.problem ≡ unknown) × (state_of result.placement ≡ unmade) }
+        ensures { (result.problem ≡ unknown) × (result.state ≡ unmade) }
     {
         Session {
             heap,
@@ -55,7 +62,7 @@ impl Session {
 
     /// Does what a line says; a call has a reply.
     pub fn obey<'a>(&mut self, line: &'a str) -> Result<Option<Reply>, Wrong<'a>>
-        ensures { Obeyed result (contents_of self.old.problem) (state_of self.old.placement) (contents_of self.new.problem) (state_of self.new.placement) }
+        ensures { Obeyed result self.old.problem self.old.state self.new.problem self.new.state }
     {
         match parse(line)? {
             None => Ok(None),
@@ -69,8 +76,8 @@ impl Session {
 
     /// Takes in a line of the problem, which cannot be changed once it is made.
     fn describe<'a>(&mut self, line: Description) -> Result<(), Wrong<'a>>
-        ensures taken { TakenIn result (taken_at (state_of self.old.placement).standing line (contents_of self.old.problem)) (contents_of self.old.problem) (contents_of self.new.problem) }
-        ensures same { self.new.placement ≡ self.old.placement }
+        ensures taken { TakenIn result (taken_at self.old.state.standing line self.old.problem) self.old.problem self.new.problem }
+        ensures same { self.new.state ≡ self.old.state }
     {
         if self.placement.size().is_ok() {
             return Err(Wrong::AfterMake);
@@ -80,9 +87,9 @@ impl Session {
 
     /// Makes a call and counts it.
     fn answer(&mut self, call: Call) -> Result<Reply, AllocError>
-        ensures answer { IfOk result (λ reply. untold reply ≡ call_reply call (contents_of self.old.problem) (state_of self.old.placement)) }
-        ensures after { OnOk result (state_of self.new.placement ≡ call_state call (contents_of self.old.problem) (state_of self.old.placement)) }
-        ensures refused { OnErr result (state_of self.new.placement ≡ state_of self.old.placement) }
+        ensures answer { IfOk result (λ reply. untold reply ≡ call_reply call self.old.problem self.old.state) }
+        ensures after { OnOk result (self.new.state ≡ call_state call self.old.problem self.old.state) }
+        ensures refused { OnErr result (self.new.state ≡ self.old.state) }
         ensures same { self.new.problem ≡ self.old.problem }
     {
         let answer = match call {
@@ -99,7 +106,7 @@ impl Session {
     /// Counts a call, and gives the reply to it.
     fn count(&mut self, call: Call, answer: Result<Reply, PlacementFault>) -> Reply
         ensures value { untold result ≡ reply_to call (untold_answer answer) }
-        ensures same { (self.new.problem ≡ self.old.problem) × (self.new.placement ≡ self.old.placement) }
+        ensures same { self.new ≡ self.old }
     {
         self.calls = self.calls.saturating_add(1);
         match answer {
@@ -113,8 +120,8 @@ impl Session {
 
     /// Makes the placement of the problem with a copy of its rows.
     fn make(&mut self, rows: Vec<RowDraft>) -> Result<Reply, PlacementFault>
-        ensures answer { untold_answer result ≡ told (λ _. reply.Made) (make_answer (state_of self.old.placement) (size_of (contents_of self.old.problem)) (box_of (contents_of self.old.problem)) rows.items) }
-        ensures after { state_of self.new.placement ≡ make_state (state_of self.old.placement) (size_of (contents_of self.old.problem)) (box_of (contents_of self.old.problem)) rows.items }
+        ensures answer { untold_answer result ≡ told (λ _. reply.Made) (make_answer self.old.state (size_of self.old.problem) (box_of self.old.problem) rows.items) }
+        ensures after { self.new.state ≡ make_state self.old.state (size_of self.old.problem) (box_of self.old.problem) rows.items }
         ensures same { self.new.problem ≡ self.old.problem }
     {
         let size = self.problem.size();
@@ -124,8 +131,8 @@ impl Session {
 
     /// Reads the rows, from left to right, and narrows once by the layers over them.
     fn narrow(&mut self, plan: Plan) -> Result<Reply, PlacementFault>
-        ensures answer { untold_answer result ≡ narrow_reply plan (state_of self.old.placement) }
-        ensures after { state_of self.new.placement ≡ narrow_left plan (state_of self.old.placement) }
+        ensures answer { untold_answer result ≡ narrow_reply plan self.old.state }
+        ensures after { self.new.state ≡ narrow_left plan self.old.state }
         ensures same { self.new.problem ≡ self.old.problem }
     {
         let first = self.placement.row(ordinal(plan.first))?;
@@ -139,48 +146,31 @@ impl Session {
         }
     }
 
-    /// Narrows by layers over a narrower.
+    /// Narrows by layers over a narrower. An enum says which, and not a `dyn`: each arm has a narrower of its own type, on the stack.
     fn narrow_layered<N: Narrower + Drop>(
         &mut self,
         layers: Layers,
         base: N,
     ) -> Result<Reply, PlacementFault>
-        ensures answer { untold_answer result ≡ told (reply_by layers) (narrow_answer (layered layers (N.means base)) (state_of self.old.placement)) }
-        ensures after { state_of self.new.placement ≡ narrow_state (layered layers (N.means base)) (state_of self.old.placement) }
-        ensures same { self.new.problem ≡ self.old.problem }
+        ensures { Narrows (layered layers (N.means base)) (reply_by layers) result self.old self.new }
     {
         match layers {
             Layers::Plain => self.narrow_by(base),
-            Layers::Star(s) => self.narrow_star(base, s),
+            Layers::Star(s) => self.narrow_by(Star::new(base, ordinal(s))),
             Layers::Rounds(k) => self.narrow_rounds(base, k),
-            Layers::StarOfRounds(s, k) => self.narrow_star(Rounds::new(base, k), s),
+            Layers::StarOfRounds(s, k) => {
+                self.narrow_by(Star::new(Rounds::new(base, k), ordinal(s)))
+            }
             Layers::RoundsOfStar(k, s) => self.narrow_rounds(Star::new(base, ordinal(s)), k),
         }
     }
 
     /// Narrows by a narrower.
     fn narrow_by<N: Narrower + Drop>(&mut self, mut by: N) -> Result<Reply, PlacementFault>
-        ensures answer { untold_answer result ≡ told reply.Narrowing (narrow_answer (N.means by) (state_of self.old.placement)) }
-        ensures after { state_of self.new.placement ≡ narrow_state (N.means by) (state_of self.old.placement) }
-        ensures same { self.new.problem ≡ self.old.problem }
+        ensures { Narrows (N.means by) reply.Narrowing result self.old self.new }
     {
         let answer = self.placement.narrow(&mut by)?;
         Ok(Reply::Narrowing(answer))
-    }
-
-    /// Narrows by a narrower for one star alone.
-    fn narrow_star<N: Narrower + Drop>(
-        &mut self,
-        below: N,
-        star: i64,
-    ) -> Result<Reply, PlacementFault>
-        ensures answer { untold_answer result ≡ told reply.Narrowing (narrow_answer (star_of (ordinal_of star) (N.means below)) (state_of self.old.placement)) }
-        ensures after { state_of self.new.placement ≡ narrow_state (star_of (ordinal_of star) (N.means below)) (state_of self.old.placement) }
-        ensures same { self.new.problem ≡ self.old.problem }
-    {
-        let place = ordinal(star);
-        let by = Star::new(below, place);
-        self.narrow_by(by)
     }
 
     /// Narrows by rounds of a narrower, which tell how many they were.
@@ -189,9 +179,7 @@ impl Session {
         below: N,
         rounds: usize,
     ) -> Result<Reply, PlacementFault>
-        ensures answer { untold_answer result ≡ told (λ a. reply.Rounds a 0) (narrow_answer (rounds_of rounds (N.means below)) (state_of self.old.placement)) }
-        ensures after { state_of self.new.placement ≡ narrow_state (rounds_of rounds (N.means below)) (state_of self.old.placement) }
-        ensures same { self.new.problem ≡ self.old.problem }
+        ensures { Narrows (rounds_of rounds (N.means below)) (λ a. reply.Rounds a 0) result self.old self.new }
     {
         let mut by = Rounds::new(below, rounds);
         let answer = self.placement.narrow(&mut by)?;
@@ -200,7 +188,7 @@ impl Session {
 
     /// Reads what is asked for.
     fn read(&self, what: Reading) -> Result<Reply, PlacementFault>
-        ensures { untold_answer result ≡ read_answer what (state_of self.now.placement) }
+        ensures { untold_answer result ≡ read_answer what self.now.state }
     {
         match what {
             Reading::Size => Ok(Reply::Size(self.placement.size()?)),

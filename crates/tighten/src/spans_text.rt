@@ -1,4 +1,4 @@
-//! Spans and boxes as a person reads them.
+//! A box as a person reads it.
 
 ghost use Rattle.std.specs.Prelude.{◌≡◌};
 ghost use Rattle.tighten.specs.Calls.{box_text};
@@ -6,17 +6,6 @@ ghost use Rattle.tighten.specs.Calls.{box_text};
 use model::span::Span;
 use model::spans::copy_of;
 use std::fmt;
-
-/// A span as `[-3,3]`.
-#[derive(Clone, Copy)]
-pub struct SpanText(pub Span);
-
-impl fmt::Display for SpanText {
-    fn fmt<W: fmt::Write>(&self, f: &mut fmt::Formatter<W>) -> fmt::Result {
-        let Span { low, high } = self.0;
-        write!(f, "[{low},{high}]")
-    }
-}
 
 /// A copy of a box, as `box [-3,3] [1,5]`: its size and, in the first places, its spans.
 #[derive(Clone, Copy)]
@@ -39,9 +28,9 @@ impl BoxText {
 
 impl fmt::Display for BoxText {
     fn fmt<W: fmt::Write>(&self, f: &mut fmt::Formatter<W>) -> fmt::Result {
-        write!(f, "box")?;
+        f.write_str("box")?;
         for span in self.spans.iter().take(self.size) {
-            write!(f, " {}", SpanText(*span))?;
+            write!(f, " {span}")?;
         }
         Ok(())
     }

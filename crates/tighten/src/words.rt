@@ -1,4 +1,9 @@
 //! The words of a line of input.
+
+ghost use Rattle.std.specs.Str.Iter.{split_whitespace_steps, split_whitespace_rest};
+ghost use Rattle.std.specs.Iterator.{at_most};
+ghost use Rattle.std.specs.Prelude.{length};
+
 use crate::wrong::Wrong;
 use model::span::Span;
 use std::str::SplitWhitespace;
@@ -9,44 +14,45 @@ pub struct Words<'a> {
     rest: SplitWhitespace<'a>,
 }
 
+impl<'a> Iterator for Words<'a> {
+    type Item = &'a str;
+
+    ghost next_gives = { λ w r v. split_whitespace_steps w.rest r v.rest };
+
+    ghost remaining = { λ w. at_most (length (split_whitespace_rest w.rest)) };
+
+    fn next(&mut self) -> Option<&'a str> {
+        self.rest.next()
+    }
+}
+
 impl<'a> Words<'a> {
     /// The words of a line.
     pub fn new(line: &'a str) -> Words<'a> {
-        let text = match line.split_once('#') {
-            Some((before, _)) => before,
-            None => line,
-        };
+        let text = line.split_once('#').map_or(line, |(before, _)| before);
         Words {
             rest: text.split_whitespace(),
         }
     }
 
-    /// The next word, if there is one.
-    pub fn next(&mut self) -> Option<&'a str> {
-        self.rest.next()
-    }
-
     /// The next word, where the line has to have one.
     pub fn expect(&mut self, what: &'static str) -> Result<&'a str, Wrong<'a>> {
-        match self.next() {
-            Some(word) => Ok(word),
-            None => Err(Wrong::Missing(what)),
-        }
+        self.next().ok_or(Wrong::Missing(what))
     }
 
     /// The next word as a number.
     pub fn number(&mut self, what: &'static str) -> Result<i64, Wrong<'a>> {
-        let word = self.expect(what)?;
-        whole_number(word)
+        whole_number(self.expect(what)?)
     }
 
     /// The last one or two words as a coefficient: one number is a thin span.
     pub fn coefficient(&mut self) -> Result<Span, Wrong<'a>> {
         let low = self.number("the coefficient")?;
-        match self.next() {
-            None => Ok(Span::new(low, low)),
-            Some(word) => Ok(Span::new(low, whole_number(word)?)),
-        }
+        let high = match self.next() {
+            None => low,
+            Some(word) => whole_number(word)?,
+        };
+        Ok(Span::new(low, high))
     }
 
     /// Nothing, where no word is left.
@@ -63,8 +69,5 @@ fn whole_number(word: &str) -> Result<i64, Wrong<'_>> {
     if word.starts_with('+') {
         return Err(Wrong::NotNumber(word));
     }
-    match word.parse::<i64>() {
-        Ok(number) => Ok(number),
-        Err(_) => Err(Wrong::NotNumber(word)),
-    }
+    word.parse::<i64>().map_err(|_| Wrong::NotNumber(word))
 }

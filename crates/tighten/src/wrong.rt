@@ -59,54 +59,74 @@ impl<'a, T: Drop> From<AllocFailed<T>> for Wrong<'a> {
     }
 }
 
+/// What a line may start with.
+const FIRST_WORDS: &str =
+    "size, span, row, square, pair, single, at-least, at-most, make, narrow or read";
+
+/// What a line that narrows has.
+const NARROW_LINE: &str = "'narrow [star S] [rounds K] row K [then row K]'";
+
+/// What can be read.
+const READ_LINES: &str = "'read size', 'read box', 'read standing' or 'read row K'";
+
+/// Where layers stand.
+const LAYERS: &str = "'star S' and 'rounds K' stand before the first row, each at most once";
+
 impl<'a> fmt::Display for Wrong<'a> {
     fn fmt<W: fmt::Write>(&self, f: &mut fmt::Formatter<W>) -> fmt::Result {
         match self {
             Wrong::UnknownLine(word) => write!(
                 f,
-                "a line cannot start with '{word}': it starts with size, span, row, square, pair, single, at-least, at-most, make, narrow or read"
+                "a line cannot start with '{word}': it starts with {FIRST_WORDS}"
             ),
-            Wrong::UnknownNarrower(word) => write!(
-                f,
-                "'{word}' is no narrower: write 'narrow [star S] [rounds K] row K [then row K]'"
-            ),
-            Wrong::MisplacedLayer(word) => write!(
-                f,
-                "'{word}' cannot stand here: 'star S' and 'rounds K' stand before the first row, each at most once"
-            ),
-            Wrong::UnknownReading(word) => write!(
-                f,
-                "'{word}' cannot be read: write 'read size', 'read box', 'read standing' or 'read row K'"
-            ),
+            Wrong::UnknownNarrower(word) => {
+                write!(f, "'{word}' is no narrower: write {NARROW_LINE}")
+            }
+            Wrong::MisplacedLayer(word) => write!(f, "'{word}' cannot stand here: {LAYERS}"),
+            Wrong::UnknownReading(word) => {
+                write!(f, "'{word}' cannot be read: write {READ_LINES}")
+            }
             Wrong::Missing(what) => write!(f, "{what} is missing at the end of the line"),
             Wrong::Extra(word) => write!(f, "the line should end before '{word}'"),
-            Wrong::NotNumber(word) => write!(
-                f,
-                "'{word}' is not a whole number from -9223372036854775808 to 9223372036854775807"
-            ),
-            Wrong::NegativeSize(size) => write!(f, "the size cannot be {size}, which is below 0"),
-            Wrong::NegativeRounds(rounds) => write!(
-                f,
-                "the number of rounds cannot be {rounds}, which is below 0"
-            ),
-            Wrong::SizeAgain => write!(f, "the size is given a second time"),
-            Wrong::NoSize => write!(f, "the size has to be given first, by 'size N'"),
-            Wrong::NoRow => write!(f, "a row has to be started first, by 'row'"),
-            Wrong::NoCoordinate(given, 0) => {
-                write!(f, "there is no coordinate {given}: the size is 0")
-            }
-            Wrong::NoCoordinate(given, most) => {
+            Wrong::NotNumber(word) => {
                 write!(
                     f,
-                    "there is no coordinate {given}: they count from 1 to {most}"
+                    "'{word}' is not a whole number from {} to {}",
+                    i64::MIN,
+                    i64::MAX
                 )
             }
-            Wrong::PairOfOne(given) => write!(
-                f,
-                "a pair takes two coordinates, and {given} is given twice: write 'square {given}' for its square"
-            ),
-            Wrong::AfterMake => write!(f, "the problem is made and cannot be changed any more"),
-            Wrong::Memory => write!(f, "there is no memory left"),
+            Wrong::NegativeSize(n) => write!(f, "the size cannot be {n}, which is below 0"),
+            Wrong::NegativeRounds(n) => {
+                write!(f, "the number of rounds cannot be {n}, which is below 0")
+            }
+            Wrong::SizeAgain => f.write_str("the size is given a second time"),
+            Wrong::NoSize => f.write_str("the size has to be given first, by 'size N'"),
+            Wrong::NoRow => f.write_str("a row has to be started first, by 'row'"),
+            Wrong::NoCoordinate(given, most) => write_no_coordinate(*given, *most, f),
+            Wrong::PairOfOne(given) => write_pair_of_one(*given, f),
+            Wrong::AfterMake => f.write_str("the problem is made and cannot be changed any more"),
+            Wrong::Memory => f.write_str("there is no memory left"),
         }
     }
+}
+
+fn write_no_coordinate<W: fmt::Write>(
+    given: i64,
+    most: usize,
+    f: &mut fmt::Formatter<W>,
+) -> fmt::Result {
+    write!(f, "there is no coordinate {given}: ")?;
+    if most == 0 {
+        f.write_str("the size is 0")
+    } else {
+        write!(f, "they count from 1 to {most}")
+    }
+}
+
+fn write_pair_of_one<W: fmt::Write>(given: i64, f: &mut fmt::Formatter<W>) -> fmt::Result {
+    write!(
+        f,
+        "a pair takes two coordinates, and {given} is given twice: write 'square {given}' for its square"
+    )
 }

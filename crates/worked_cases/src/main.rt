@@ -6,36 +6,29 @@ mod edges;
 mod outcome;
 mod problems;
 
-use cases::Case;
+use cases::Table;
 use std::alloc::{AllocError, Global};
 
 /// All cases, each with its outcome.
-fn all(heap: Global) -> Result<Vec<Case>, AllocError> {
-    let mut list = Vec::new(heap);
-    cases::of_one_row(heap, &mut list)?;
-    edges::of_boxes(heap, &mut list)?;
-    edges::of_rows(heap, &mut list)?;
-    edges::of_limits(heap, &mut list)?;
-    edges::of_states(heap, &mut list)?;
-    edges::of_narrowers(heap, &mut list)?;
-    edges::of_runs(heap, &mut list)?;
-    Ok(list)
+fn all(heap: Global) -> Result<Table, AllocError> {
+    let mut table = Table::new(heap);
+    table.note_one_row()?;
+    table.note_boxes()?;
+    table.note_rows()?;
+    table.note_limits()?;
+    table.note_states()?;
+    table.note_narrowers()?;
+    table.note_runs()?;
+    Ok(table)
 }
 
 fn main(rt: HostRuntime) -> anyhow::Result<()> {
-    let list = all(rt.alloc())?;
-    let mut different = 0usize;
-    for case in list.iter() {
-        let call = case.call;
-        let expected = case.expected;
-        let got = case.got.as_str();
-        let verdict = case.verdict();
-        println!(rt; "{call} | expected {expected} | got {got} | {verdict}")?;
-        if !case.agreed() {
-            different = different.saturating_add(1);
-        }
+    let table = all(rt.alloc())?;
+    for case in &table.cases {
+        println!(rt; "{case}")?;
     }
-    let count = list.len();
+    let count = table.cases.len();
+    let different = table.cases.iter().filter(|case| !case.agreed()).count();
     println!(rt; "{count} cases, {different} different")?;
     Ok(())
 }
