@@ -110,7 +110,11 @@ impl Table {
             "refused 13 at 1",
             with_row(heap, side),
         )?;
-        self.note("a crossed right side, make", "refused 13 at 1", with_row(heap, crossed))
+        self.note(
+            "a crossed right side, make",
+            "refused 13 at 1",
+            with_row(heap, crossed),
+        )
     }
 
     /// The refusals by the state.
@@ -142,7 +146,11 @@ impl Table {
         let mut one = placed(heap, square_at_most_nine())?;
         let two = placed_product(heap)?;
         self.note("read row 0", "refused 13 at 0", row_read(heap, &one, 0))?;
-        self.note("read row 2 of one", "refused 13 at 0", row_read(heap, &one, 2))?;
+        self.note(
+            "read row 2 of one",
+            "refused 13 at 0",
+            row_read(heap, &one, 2),
+        )?;
         self.note(
             "narrow by a row of another size",
             "refused 14 at 0",
@@ -217,11 +225,7 @@ fn row_read(heap: Global, placement: &Placement, k: usize) -> Result<String, Sto
 }
 
 /// The outcome of narrowing a placement by the row of another one.
-fn narrowed_by(
-    heap: Global,
-    placement: &mut Placement,
-    other: &Placement,
-) -> Result<String, Stop> {
+fn narrowed_by(heap: Global, placement: &mut Placement, other: &Placement) -> Result<String, Stop> {
     let mut by = OneRow::new(other.row(1)?);
     let answer = placement.narrow(&mut by)?;
     answered(heap, placement, answer)

@@ -3,7 +3,7 @@ use model::span::Span;
 use narrower::answer::Answer;
 use narrower::faults::{NarrowFault, Place, PlacementFault};
 use placement::placement::Placement;
-use std::alloc::{AllocError, Global};
+use std::alloc::{AllocError, AllocFailed, Global};
 use std::fmt;
 
 /// A refusal's number and place, as `refused 12 at 2`.
@@ -59,6 +59,12 @@ impl From<AllocError> for Stop {
     }
 }
 
+impl<T: Drop> From<AllocFailed<T>> for Stop {
+    fn from(failed: AllocFailed<T>) -> Stop {
+        Stop::Memory(AllocError::from(failed))
+    }
+}
+
 /// A run of spans, each with a blank before it, as ` [-3,3] [1,5]`.
 #[derive(Drop)]
 struct Written<'a>(&'a [Span]);
@@ -81,11 +87,11 @@ pub fn answered(heap: Global, placement: &Placement, answer: Answer) -> Result<S
 /// A narrower's answer or refusal with the run that is left, as `narrowed, leaving [2,3] [2,3]`.
 pub fn told(
     heap: Global,
-    result: Result<Answer, NarrowFault>,
+    answer: Result<Answer, NarrowFault>,
     spans: &[Span],
 ) -> Result<String, Stop> {
     let spans = Written(spans);
-    let text = match result {
+    let text = match answer {
         Ok(answer) => format!(in heap; "{answer}, leaving{spans}")?,
         Err(fault) => format!(in heap; "{}, leaving{spans}", Refusal::from(fault))?,
     };
