@@ -20,7 +20,7 @@ use Rattle.tighten.specs.declared.command.Layers.TheVariants.{Plain, Star, Round
 use Rattle.tighten.specs.declared.command.Plan.{Plan}
 use Rattle.tighten.specs.declared.command.Reading.{Reading}
 use Rattle.tighten.specs.declared.command.Reading.TheVariants as reading
-use Rattle.tighten.specs.declared.spans_text.BoxText.{BoxText}
+use Rattle.tighten.specs.declared.box_text.BoxText.{BoxText}
 use Rattle.tighten.specs.declared.reply.Reply.{Reply}
 use Rattle.tighten.specs.declared.reply.Reply.TheVariants as reply
 use Rattle.tighten.specs.Contents.{Contents, size_of, box_of, ordinal_of}

@@ -1,6 +1,7 @@
 //! A program that reads a problem and calls on it, and tells what each call came to.
 #![tactic(auto)]
 
+mod box_text;
 mod command;
 mod failure;
 mod problem;
@@ -8,7 +9,6 @@ mod refusal;
 mod reply;
 mod row_text;
 mod session;
-mod spans_text;
 mod summary;
 mod words;
 mod wrong;

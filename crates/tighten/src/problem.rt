@@ -19,6 +19,7 @@ const WIDEST: Span = Span {
 };
 
 /// A size, a span for each coordinate, and rows, of which nobody has looked yet whether they keep their limits.
+// Nine spans, and no Vec, which would make giving a size need memory; all nine count from the start, and the size may be beyond 9.
 #[derive(Drop)]
 pub struct Problem {
     size: Option<usize>,
@@ -88,13 +89,9 @@ impl Problem {
         if self.size.is_some() {
             return Err(Wrong::SizeAgain);
         }
-        match usize::try_from(given) {
-            Ok(size) => {
-                self.size = Some(size);
-                Ok(())
-            }
-            Err(_) => Err(Wrong::NegativeSize(given)),
-        }
+        let size = usize::try_from(given).map_err(|_| Wrong::NegativeSize(given))?;
+        self.size = Some(size);
+        Ok(())
     }
 
     /// The place of a coordinate that is counted from 1.
@@ -102,9 +99,7 @@ impl Problem {
         ensures value { result ≡ index_in self.now.size given }
         ensures bound { IfOk result (λ i. i < 9) }
     {
-        let Some(size) = self.size else {
-            return Err(Wrong::NoSize);
-        };
+        let size = self.size.ok_or(Wrong::NoSize)?;
         let most = size.min(MOST_COORDINATES);
         let i = ordinal(given);
         if i > 0 && i <= most {
@@ -125,9 +120,7 @@ impl Problem {
     fn start_row<'a>(&mut self) -> Result<(), Wrong<'a>>
         ensures { TakenIn result (taken Description.Row self.old) self.old self.new }
     {
-        let Some(size) = self.size else {
-            return Err(Wrong::NoSize);
-        };
+        let size = self.size.ok_or(Wrong::NoSize)?;
         self.rows.push(RowDraft::new(size))?;
         Ok(())
     }
@@ -136,9 +129,7 @@ impl Problem {
         ensures { Taken result (taken (Description.Square i coefficient) self.old) self.old self.new }
     {
         let i = self.index(i)?;
-        let Some(row) = self.rows.last_mut() else {
-            return Err(Wrong::NoRow);
-        };
+        let row = self.rows.last_mut().ok_or(Wrong::NoRow)?;
         row.squares[i] = coefficient;
         Ok(())
     }
@@ -151,9 +142,7 @@ impl Problem {
         if first == second {
             return Err(Wrong::PairOfOne(i));
         }
-        let Some(row) = self.rows.last_mut() else {
-            return Err(Wrong::NoRow);
-        };
+        let row = self.rows.last_mut().ok_or(Wrong::NoRow)?;
         row.pairs[first.min(second)][first.max(second)] = coefficient;
         Ok(())
     }
@@ -162,9 +151,7 @@ impl Problem {
         ensures { Taken result (taken (Description.Single i coefficient) self.old) self.old self.new }
     {
         let i = self.index(i)?;
-        let Some(row) = self.rows.last_mut() else {
-            return Err(Wrong::NoRow);
-        };
+        let row = self.rows.last_mut().ok_or(Wrong::NoRow)?;
         row.singles[i] = coefficient;
         Ok(())
     }
@@ -172,9 +159,7 @@ impl Problem {
     fn set_low<'a>(&mut self, low: i64) -> Result<(), Wrong<'a>>
         ensures { Taken result (taken (Description.AtLeast low) self.old) self.old self.new }
     {
-        let Some(row) = self.rows.last_mut() else {
-            return Err(Wrong::NoRow);
-        };
+        let row = self.rows.last_mut().ok_or(Wrong::NoRow)?;
         row.low = Some(low);
         Ok(())
     }
@@ -182,9 +167,7 @@ impl Problem {
     fn set_high<'a>(&mut self, high: i64) -> Result<(), Wrong<'a>>
         ensures { Taken result (taken (Description.AtMost high) self.old) self.old self.new }
     {
-        let Some(row) = self.rows.last_mut() else {
-            return Err(Wrong::NoRow);
-        };
+        let row = self.rows.last_mut().ok_or(Wrong::NoRow)?;
         row.high = Some(high);
         Ok(())
     }

@@ -1,7 +1,7 @@
 //! What a call is answered with.
+use crate::box_text::BoxText;
 use crate::refusal::Refusal;
 use crate::row_text::RowText;
-use crate::spans_text::BoxText;
 use model::draft::RowDraft;
 use narrower::answer::Answer;
 use placement::standing::Standing;

@@ -11,11 +11,11 @@ ghost use Rattle.tighten.specs.Runs.{Run, Narrows};
 ghost use Rattle.tighten.specs.Obeying.{Obeyed};
 ghost use Rattle.tighten.specs.Calls.{told, untold, untold_answer, reply_to, reply_by, layered, narrow_reply, narrow_left, read_answer, call_reply, call_state};
 
+use crate::box_text::BoxText;
 use crate::command::{Call, Command, Description, Layers, Plan, Reading, ordinal, parse};
 use crate::problem::Problem;
 use crate::refusal::Refusal;
 use crate::reply::Reply;
-use crate::spans_text::BoxText;
 use crate::summary::{Narrowing, Outcome, Summary};
 use crate::wrong::Wrong;
 use model::draft::RowDraft;

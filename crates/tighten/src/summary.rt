@@ -16,7 +16,7 @@ pub enum Outcome {
 /// How much of a box was cut away: how many coordinates are narrower, of how many, and the sums of the widths.
 #[derive(Clone, Copy)]
 pub struct Narrowing {
-    narrowed: u64,
+    narrowed: usize,
     size: usize,
     before: i64,
     after: i64,
@@ -25,31 +25,26 @@ pub struct Narrowing {
 impl Narrowing {
     /// What became of a box.
     pub fn between(before: &[Span], after: &[Span]) -> Narrowing {
-        let mut narrowing = Narrowing {
-            narrowed: 0,
+        let pairs = before.iter().zip(after);
+        Narrowing {
+            narrowed: pairs.filter(|(was, is)| width(is) < width(was)).count(),
             size: after.len(),
-            before: 0,
-            after: 0,
-        };
-        for (was, is) in before.iter().zip(after) {
-            narrowing.count(*was, *is);
+            before: widths(before),
+            after: widths(after),
         }
-        narrowing
-    }
-
-    fn count(&mut self, was: Span, is: Span) {
-        let old = width(was);
-        let new = width(is);
-        if new < old {
-            self.narrowed = self.narrowed.saturating_add(1);
-        }
-        self.before = self.before.saturating_add(old);
-        self.after = self.after.saturating_add(new);
     }
 }
 
-fn width(span: Span) -> i64 {
+fn width(span: &Span) -> i64 {
     span.high.saturating_sub(span.low)
+}
+
+/// The sum of the widths.
+fn widths(spans: &[Span]) -> i64 {
+    spans
+        .iter()
+        .map(width)
+        .fold(0, |sum: i64, width| sum.saturating_add(width))
 }
 
 /// How many calls there were, how many were refused, and how the placement is left.
