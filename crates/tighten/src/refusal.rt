@@ -36,8 +36,9 @@ impl Refusal {
                 f,
                 "the span of coordinate {i} is crossed or goes beyond -{BOX_LIMIT} to {BOX_LIMIT}: give it again"
             ),
-            PlacementFault::TooManyRows => self.write_many_rows(f),
-            PlacementFault::BadRow(0) => self.write_bad_rows(f),
+            PlacementFault::TooManyRows => {
+                write!(f, "there are more than {MOST_ROWS} rows: leave some out")
+            }
             PlacementFault::BadRow(k) => write!(
                 f,
                 "row {k} is crossed or goes beyond its limits: squares and pairs lie within {SQUARE_LIMIT} of 0, singles within {SINGLE_LIMIT}, ends within {SIDE_LIMIT}"
@@ -49,18 +50,6 @@ impl Refusal {
             PlacementFault::AtNone => f.write_str(AT_NONE),
             PlacementFault::Proposal(fault) => f.write_str(proposal_words(fault)),
         }
-    }
-
-    /// What 13 at 0 says of a call.
-    fn write_bad_rows<W: fmt::Write>(&self, f: &mut fmt::Formatter<W>) -> fmt::Result {
-        match self.call {
-            Call::Make => self.write_many_rows(f),
-            _ => self.write_missing_row(f),
-        }
-    }
-
-    fn write_many_rows<W: fmt::Write>(&self, f: &mut fmt::Formatter<W>) -> fmt::Result {
-        write!(f, "there are more than {MOST_ROWS} rows: leave some out")
     }
 
     /// Which row is missing of those that the call names.

@@ -54,7 +54,7 @@ impl Session {
         Session {
             heap,
             problem: Problem::new(heap),
-            placement: Placement::new(heap),
+            placement: Placement::new(),
             calls: 0,
             refused: 0,
         }

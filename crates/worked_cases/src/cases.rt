@@ -119,13 +119,13 @@ pub fn made(
     spans: &[Span],
     rows: Vec<RowDraft>,
 ) -> Result<String, Stop> {
-    Placement::new(heap).make(size, spans, rows)?;
+    Placement::new().make(size, spans, rows)?;
     Ok(String::from_str(heap, "made")?)
 }
 
 /// The outcome of making a placement of one row and narrowing it by that row as often as said; the last answer counts.
 pub fn narrowed(heap: Global, spans: &[Span], row: RowDraft, times: u16) -> Result<String, Stop> {
-    let mut placement = Placement::new(heap);
+    let mut placement = Placement::new();
     placement.make(spans.len(), spans, vec![in heap; row]?)?;
     let mut by = OneRow::new(placement.row(1)?);
     for _ in 1..times {

@@ -120,7 +120,7 @@ impl Table {
     /// The refusals by the state.
     pub fn note_states(&mut self) -> Result<(), AllocError> {
         let heap = self.heap;
-        let mut unmade = Placement::new(heap);
+        let mut unmade = Placement::new();
         let one = placed(heap, square_at_most_nine())?;
         self.note(
             "read row 1 before make",
@@ -195,14 +195,14 @@ fn with_row(heap: Global, row: RowDraft) -> Result<String, Stop> {
 
 /// A placement of one coordinate in [-10,10] with one row.
 fn placed(heap: Global, row: RowDraft) -> Result<Placement, AllocError> {
-    let mut placement = Placement::new(heap);
+    let mut placement = Placement::new();
     let _ = placement.make(1, &[Span::new(-10, 10)], vec![in heap; row]?);
     Ok(placement)
 }
 
 /// The placement of x1 x2 = 6 on [1,10] [2,3].
 fn placed_product(heap: Global) -> Result<Placement, AllocError> {
-    let mut placement = Placement::new(heap);
+    let mut placement = Placement::new();
     let _ = placement.make(
         2,
         &[Span::new(1, 10), Span::new(2, 3)],
