@@ -15,12 +15,9 @@ use Rattle.factoring.specs.Sizes.{SizedForm, singles_bound}
 use Rattle.factoring.specs.Cuts.{Ready, Agree}
 use Rattle.factoring.proofs.StepSizes.{sized_later}
 use Rattle.factoring.proofs.StoredTests.{AlikeStep}
+use Rattle.factoring.proofs.Searches.{any_same}
 
 -- ---- tests
-
-any_same : (n : ℕ) (t u : ℕ → Bool) → ((j : ℕ) → j < n → t j ≡ u j) → any n t ≡ any n u
-any_same zero t u h = refl
-any_same (suc n) t u h = ap₂ (λ (x y : Bool). x || y) (any_same n t u (λ j l. h j (omega arith))) (h n (omega arith))
 
 pub large_agree : (n : ℕ) (f g : Form) → Agree n f g → large n f ≡ large n g
 large_agree n f g a =

@@ -2,6 +2,7 @@
 use Rattle.std.proofs.Common.{◌≡◌, ℕ, suc, ◌<◌, ◌≤◌, Bool, true, false, cond, not, ◌&&◌, ◌||◌, eqb, ◌⊎◌, List, [], ◌∷◌, length, ℤ, pos, ◌+ℤ◌, ◌-ℤ◌, ◌*ℤ◌, neg_ℤ, nat_abs, ◌≤ℤ◌, ◌<ℤ◌, Some, None, Ok, Err, Option, Result, sym, refl, ap, ◌∙◌, inl, inr, arith}
 use borrow.Author.Differences.{ints}
 use Rattle.std.specs.List.{AllByRecursion}
+use Rattle.std.specs.Option.{option_or}
 use Rattle.std.proofs.lemmas.Bool.{eqb-true, eqb-false, ne_eqb, eq-eqb, cases_eq, true≢false, and_parts, leb-true}
 use Rattle.std.proofs.ByRecursion.{All-weaker}
 use Rattle.std.proofs.lemmas.List.{length-map}
@@ -19,12 +20,12 @@ use Rattle.narrower.specs.declared.faults.FactorFault.{FactorFault}
 use Rattle.factoring.specs.Forms.{Form, form_of, middle}
 use Rattle.factoring.specs.Steps.{slope_of, step_of, next_form}
 use Rattle.factoring.specs.Factoring.{entry_limit, outgrows, step_fault, Factors, and_step, factor, factored}
-use Rattle.factoring.specs.Orders.{from_zero, factor_refusal, order_at}
+use Rattle.factoring.specs.Orders.{from_zero, factor_refusal}
 use Rattle.factoring.specs.Sizes.{SmallSums}
 use Rattle.factoring.specs.Dominance.{Dominant, DominantSumsPass}
 use Rattle.factoring.proofs.StepTests.{slope_size_lem, any_none, not_outgrown, passing, Symmetric, next_symmetric, form_symmetric, Empty, empty_own, empty_next}
 use Rattle.factoring.proofs.StepSizes.{small_of_fits}
-use Rattle.factoring.proofs.OrderTests.{Different, ordered_of_place, from_zero_inside, from_zero_different}
+use Rattle.factoring.proofs.OrderTests.{Different, ordered_of_unrefused, from_zero_inside, from_zero_different}
 
 -- ---- heavy rows
 
@@ -273,9 +274,9 @@ row_passes r order few w d short inside new =
 -- nor is their order
 pub dominant_sums_pass : DominantSumsPass
 dominant_sums_pass r fits d is e =
-    let o = ordered_of_place r.size is e in
+    let o = ordered_of_unrefused r.size is e in
     let size = and_parts (size_fits r.size) _ fits in
     let few = leb-true r.size 9 (and_parts _ _ size.0).1 in
     let short : length (from_zero is) ≤ r.size = rw (length-map) o.few in
     let p = row_passes r (from_zero is) few (small_of_fits r fits) d short (from_zero_inside r.size is o) (from_zero_different r.size is o) in
-    ap (λ (c : Option ℕ). order_at c (factor_refusal (factored r (from_zero is)))) e ∙ ap factor_refusal p.1
+    ap (λ c. option_or c (factor_refusal (factored r (from_zero is)))) e ∙ ap factor_refusal p.1

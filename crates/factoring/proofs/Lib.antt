@@ -5,7 +5,8 @@ pub mod StoredTests
 pub mod OrderTests
 pub mod Dominating
 pub mod Fits
-pub mod Filling
+pub mod Searches
+pub mod Choices
 pub mod StepBounds
 pub mod Agreeing
 pub mod FactorRuns

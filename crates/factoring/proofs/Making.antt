@@ -1,20 +1,21 @@
 -- What a factoring hands back, put together from its parts.
-use Rattle.std.proofs.Common.{◌≡◌, ℕ, ◌-◌, ◌<◌, ◌≤◌, true, List, length, get_or, take, Some, None, Ok, Err, Option, Result, sym, ap, ◌∙◌, subst, arith}
+use Rattle.std.proofs.Common.{◌≡◌, ℕ, ◌<◌, ◌≤◌, true, List, length, get_or, take, Some, None, Ok, Err, Option, Result, sym, ap, ◌∙◌, subst, arith}
 use Rattle.std.proofs.lemmas.List.{length-map}
 use Rattle.std.proofs.ByRecursion.{All-get_or}
+use Rattle.std.specs.Option.{option_or}
 use Rattle.numbers.specs.Ranges.{just}
 use Rattle.model.specs.Rows.{Row}
 use Rattle.model.specs.Sums.{sums_fit}
 use Rattle.narrower.specs.declared.faults.FactorFault.{FactorFault}
 use Rattle.narrower.specs.declared.faults.ProposalFault.{ProposalFault}
-use Rattle.narrower.specs.declared.faults.ProposalFault.TheVariants.{Order, Factor}
+use Rattle.narrower.specs.declared.faults.ProposalFault.TheVariants.{Factor}
 use Rattle.factoring.specs.declared.factored.Factored.{Factored}
 use Rattle.factoring.specs.declared.tables.FormTable.{FormTable}
 use Rattle.factoring.specs.declared.tables.StepTable.{StepTable}
 use Rattle.factoring.specs.declared.tables.TermTable.{TermTable}
 use Rattle.factoring.specs.Forms.{form_of}
 use Rattle.factoring.specs.Factoring.{factor, factored}
-use Rattle.factoring.specs.Orders.{order_place, from_zero, factor_refusal, order_at, order_refusal}
+use Rattle.factoring.specs.Orders.{entries_refusal, from_zero, factor_refusal, order_refusal}
 use Rattle.factoring.specs.Sizes.{SizedForm}
 use Rattle.factoring.specs.Stored.{form_at, steps_at, parts_at, rest_parts, same_parts, stored, entries_below}
 use Rattle.narrower.specs.Faults.{refusal_of}
@@ -22,21 +23,25 @@ use Rattle.factoring.specs.Made.{MadeOf}
 use Rattle.factoring.specs.Cuts.{Agree, Ran}
 use Rattle.factoring.proofs.StepSizes.{sized-start, small_of_fits}
 use Rattle.factoring.proofs.StoredTests.{decides_parts, decides_steps, decides_stored}
-use Rattle.factoring.proofs.OrderTests.{Ordered, ordered_of_place, from_zero_inside, from_zero-below}
+use Rattle.factoring.proofs.OrderTests.{Ordered, ordered_of_unrefused, from_zero_inside, from_zero-below}
 use Rattle.factoring.proofs.Agreeing.{sized_agree}
 use Rattle.factoring.proofs.SmallSizes.{few_sums}
 
+-- a refusal that is passed up whole
+pub refused : (r : Row) (order : List ℕ) (e : ProposalFault) (x : Result Factored ProposalFault) (y : ProposalFault) → x ≡ Err y → y ≡ e → Some e ≡ order_refusal r order → (refusal_of x ≡ order_refusal r order) × MadeOf r order x
+refused r order e x y p q h = (ap refusal_of p ∙ ap (λ (z : ProposalFault). Some z) q ∙ h, subst (MadeOf r order) (sym p) tt)
+
 -- an order that is refused by itself
-pub order_refused : (r : Row) (order : List ℕ) (k : ℕ) → Some k ≡ order_place r.size order → Some (Order k) ≡ order_refusal r order
-order_refused r order k e = ap (λ (o : Option ℕ). order_at o (factor_refusal (factored r (from_zero order)))) e
+pub order_refused : (r : Row) (order : List ℕ) (e : ProposalFault) → Some e ≡ entries_refusal r.size order → Some e ≡ order_refusal r order
+order_refused r order e h = ap (λ o. option_or o (factor_refusal (factored r (from_zero order)))) h
 
 -- an order that is not: what is refused of the factoring
-pub order_passed : (r : Row) (order : List ℕ) → None ≡ order_place r.size order → factor_refusal (factored r (from_zero order)) ≡ order_refusal r order
-order_passed r order e = ap (λ (o : Option ℕ). order_at o (factor_refusal (factored r (from_zero order)))) e
+pub order_passed : (r : Row) (order : List ℕ) → None ≡ entries_refusal r.size order → factor_refusal (factored r (from_zero order)) ≡ order_refusal r order
+order_passed r order h = ap (λ o. option_or o (factor_refusal (factored r (from_zero order)))) h
 
-module _ (r : Row) (fits : sums_fit r ≡ true) (order : List ℕ) (placed : None ≡ order_place r.size order) where
+module _ (r : Row) (fits : sums_fit r ≡ true) (order : List ℕ) (placed : None ≡ entries_refusal r.size order) where
   ordered : Ordered r.size order
-  ordered = ordered_of_place r.size order (sym placed)
+  ordered = ordered_of_unrefused r.size order (sym placed)
 
   pub few_entries : length order ≤ 9
   few_entries = let a = ordered.few in let b = few_sums r fits in omega arith
@@ -46,26 +51,23 @@ module _ (r : Row) (fits : sums_fit r ≡ true) (order : List ℕ) (placed : Non
 
   -- the order as it is stored, from 0
   module _ (taken : List ℕ) (e : take (length order) taken ≡ from_zero order) where
-    part : take (length order - 0) taken ≡ from_zero order
-    part = let q : length order - 0 ≡ length order = omega arith in ap (λ (m : ℕ). take m taken) q ∙ e
-
     -- what the steps require
-    pub taken_short : length (take (length order - 0) taken) ≤ 9
-    taken_short = subst (λ (is : List ℕ). length is ≤ 9) (sym part) (rw length-map few_entries)
+    pub taken_short : length (take (length order) taken) ≤ 9
+    taken_short = subst (λ (is : List ℕ). length is ≤ 9) (sym e) (rw length-map few_entries)
 
-    pub taken_inside : (k : ℕ) → k < length (take (length order - 0) taken) → get_or (take (length order - 0) taken) k 0 < r.size
-    taken_inside = subst (λ (is : List ℕ). (k : ℕ) → k < length is → get_or is k 0 < r.size) (sym part) (λ k l. All-get_or (λ i. i < r.size) (from_zero order) k 0 l (from_zero_inside r.size order ordered))
+    pub taken_inside : (k : ℕ) → k < length (take (length order) taken) → get_or (take (length order) taken) k 0 < r.size
+    taken_inside = subst (λ (is : List ℕ). (k : ℕ) → k < length is → get_or is k 0 < r.size) (sym e) (λ k l. All-get_or (λ i. i < r.size) (from_zero order) k 0 l (from_zero_inside r.size order ordered))
 
     pub taken-below : entries_below r.size (take (length order) taken) ≡ true
     taken-below = subst (λ (is : List ℕ). entries_below r.size is ≡ true) (sym e) (from_zero-below r.size order ordered)
 
     -- what the steps answer, of the order itself
-    pub ran_order : (x : Result (List StepTable × FormTable) FactorFault) → Ran r.size (length (take (length order - 0) taken)) x (factor r.size 1 (form_of r) (take (length order - 0) taken))
+    pub ran_order : (x : Result (List StepTable × FormTable) FactorFault) → Ran r.size (length (take (length order) taken)) x (factor r.size 1 (form_of r) (take (length order) taken))
         → Ran r.size (length order) x (factored r (from_zero order))
     ran_order x h =
         let n = r.size in
         subst (λ (m : ℕ). Ran n m x (factored r (from_zero order))) (simp length-map)
-        (subst (λ (is : List ℕ). Ran n (length is) x (factor n 1 (form_of r) is)) part h)
+        (subst (λ (is : List ℕ). Ran n (length is) x (factor n 1 (form_of r) is)) e h)
 
     -- a factoring that was not refused is stored
     pub made-stored : (steps : List StepTable) (left : FormTable) (rest : TermTable) → Ran r.size (length order) (Ok (steps, left)) (factored r (from_zero order)) → same_parts r.size (parts_at rest) (rest_parts (form_at left)) ≡ true
@@ -94,10 +96,6 @@ module _ (r : Row) (fits : sums_fit r ≡ true) (order : List ℕ) (placed : Non
   pub none_refused : (a : List StepTable × FormTable) → Ran r.size (length order) (Ok a) (factored r (from_zero order)) → None ≡ order_refusal r order
   none_refused a h = sym (ap factor_refusal h.1) ∙ order_passed r order placed
 
-  -- what a step refuses is passed up whole
-  pub step_refused : (e : FactorFault) (x : Result Factored ProposalFault) (y : ProposalFault) → x ≡ Err y → y ≡ Factor e → Ran r.size (length order) (Err e) (factored r (from_zero order))
-      → (refusal_of x ≡ order_refusal r order) × MadeOf r order x
-  step_refused e x y p q h = (
-    ap refusal_of p ∙ ap (λ (z : ProposalFault). Some z) q ∙ sym (ap factor_refusal h) ∙ order_passed r order placed,
-    subst (MadeOf r order) (sym p) tt,
-  )
+  -- what a step refuses is refused
+  pub step_refused : (e : FactorFault) → Ran r.size (length order) (Err e) (factored r (from_zero order)) → Some (Factor e) ≡ order_refusal r order
+  step_refused e h = sym (ap factor_refusal h) ∙ order_passed r order placed

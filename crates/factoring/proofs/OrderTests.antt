@@ -3,9 +3,12 @@ use Rattle.std.proofs.Common.{◌≡◌, ℕ, zero, suc, pred, ◌<◌, ◌≤�
 use Rattle.std.specs.List.{AllByRecursion}
 use Rattle.std.proofs.ByRecursion.{All-map, All-from_get_or}
 use Rattle.std.proofs.lemmas.Bool.{cases_eq, and_parts, ltb-true, leb-true, eqb-false, not-true}
+use Rattle.std.specs.Option.{option_map}
 use Rattle.model.specs.Firsts.{first_below}
 use Rattle.model.proofs.Firsts.{decides_every}
-use Rattle.factoring.specs.Orders.{entry_fits, order_place, from_zero}
+use Rattle.narrower.specs.declared.faults.ProposalFault.{ProposalFault}
+use Rattle.narrower.specs.declared.faults.ProposalFault.TheVariants.{OrderLength, Order}
+use Rattle.factoring.specs.Orders.{entry_fits, entries_refusal, from_zero}
 use Rattle.factoring.specs.Stored.{entries_below}
 use Rattle.factoring.proofs.StoredTests.{decides_below}
 
@@ -42,14 +45,15 @@ passes_below (suc n) ok h k l =
     last None false e = absurd (found_some e)
     last (Some k) b e = absurd (found_some e)
 
--- the choice of a place is none only if the length fits and no entry is at fault
-unplaced : (b : Bool) (o : Option ℕ) → cond b o (Some 0) ≡ None → (b ≡ true) × (o ≡ None)
-unplaced true o e = (refl, e)
-unplaced false o e = absurd (found_some e)
+-- nothing is refused only if the length fits and no entry is at fault
+unplaced : (b : Bool) (o : Option ℕ) → cond b (option_map Order o) (Some OrderLength) ≡ None → (b ≡ true) × (o ≡ None)
+unplaced true None e = (refl, refl)
+unplaced true (Some k) e = cc
+unplaced false o e = cc
 
--- an order with no place at fault
-pub ordered_of_place : (n : ℕ) (is : List ℕ) → order_place n is ≡ None → Ordered n is
-ordered_of_place n is e =
+-- an order that is not refused by itself
+pub ordered_of_unrefused : (n : ℕ) (is : List ℕ) → entries_refusal n is ≡ None → Ordered n is
+ordered_of_unrefused n is e =
     let p = unplaced (ltb 0 (length is) && leb (length is) n) (first_below (length is) (entry_fits n is)) e in
     let q = and_parts (ltb 0 (length is)) (leb (length is) n) p.0 in
     let t = λ (k : ℕ) (l : k < length is). passes_below (length is) (entry_fits n is) p.1 k l in

@@ -1,16 +1,12 @@
 -- The sizes of weighted sums, as the code meets them.
-use Rattle.std.proofs.Common.{◌≡◌, ℕ, ◌<◌, ◌≤◌, Bool, true, false, cond, eqb, ltb, leb, pos, ◌≤ℤ◌, refl, arith}
-use Rattle.std.proofs.lemmas.Bool.{and_parts, leb-true, ltb-true, ltb-false, eq-eqb}
+use Rattle.std.proofs.Common.{◌≡◌, ℕ, ◌<◌, ◌≤◌, Bool, true, false, cond, ltb, leb, pos, ◌≤ℤ◌, refl, arith}
+use Rattle.std.proofs.lemmas.Bool.{and_parts, leb-true, ltb-true, ltb-false}
 use Rattle.numbers.specs.Magnitudes.{abs}
 use Rattle.numbers.specs.Ranges.{Range, Spans}
 use Rattle.numbers.proofs.Magnitudes.{at_most}
 use Rattle.model.specs.Sums.{sums_fit}
 use Rattle.model.specs.Rows.{Row, pair_of, size_fits}
 use Rattle.factoring.proofs.StepSizes.{small_of_fits}
-
--- a choice by two indices that are the same
-pub same_cond : {A : Type 0} (i j : ℕ) (x y : A) → i ≡ j → x ≡ cond (eqb i j) x y
-same_cond i j x y e = rw (eq-eqb i j e)
 
 -- ranges within 2^20 are within 2^26
 wider : (s : Range) → Spans s 1048576 → Spans s 67108864

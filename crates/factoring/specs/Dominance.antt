@@ -5,7 +5,7 @@ use Rattle.numbers.specs.Magnitudes.{abs}
 use Rattle.model.specs.Rows.{Row, pair_of}
 use Rattle.model.specs.Sums.{sums_fit}
 use Rattle.factoring.specs.Forms.{middle}
-use Rattle.factoring.specs.Orders.{order_place, order_refusal}
+use Rattle.factoring.specs.Orders.{entries_refusal, order_refusal}
 
 -- the sum of f j over the j < n other than i
 abbrev pub others : ℕ → ℕ → (ℕ → ℤ) → ℤ
@@ -17,4 +17,4 @@ Dominant r = (i : ℕ) → i < r.size → (others r.size i (λ j. abs (middle (p
 
 -- dominant sums pass in every order that is not refused by itself, of all coordinates or of some
 abbrev pub DominantSumsPass : Type 0
-DominantSumsPass = (r : Row) → sums_fit r ≡ true → Dominant r → (is : List ℕ) → order_place r.size is ≡ None → order_refusal r is ≡ None
+DominantSumsPass = (r : Row) → sums_fit r ≡ true → Dominant r → (is : List ℕ) → entries_refusal r.size is ≡ None → order_refusal r is ≡ None

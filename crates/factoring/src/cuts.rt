@@ -1,13 +1,15 @@
-//! The slopes and the shift of a step.
+//! The square that a step takes off.
 
-ghost use Rattle.std.specs.Prelude.{◌≡◌, ℕ, ◌<◌, pos, ◌≤ℤ◌, ◌<ℤ◌};
+ghost use Rattle.std.specs.Prelude.{◌≡◌, ◌<◌, pos, ◌*ℤ◌, ◌≤ℤ◌};
+ghost use Rattle.numbers.specs.Division.{nearest};
 ghost use Rattle.numbers.specs.Magnitudes.{abs};
-ghost use Rattle.factoring.specs.Steps.{slope_of, shift_of};
-ghost use Rattle.factoring.specs.Stored.{number_at, form_at};
+ghost use Rattle.factoring.specs.Steps.{clamped, slope_of, shift_of};
+ghost use Rattle.factoring.specs.Stored.{form_at};
 ghost use Rattle.factoring.specs.Cuts.{Ready, Cuts};
 
-use crate::parts::{limited, rounded};
-use crate::tables::FormTable;
+use crate::parts::{limited, product, rounded};
+use crate::tables::{FormTable, table};
+use crate::view::FormView;
 use numbers::positive::Positive;
 
 /// The square that a step takes off: pivot·(x_axis + Σ slope_j·x_j / 65,536 + shift / 16)².
@@ -19,50 +21,80 @@ pub(crate) struct Cut {
     pub(crate) shift: i64,
 }
 
-fn slope(t: &FormTable, i: usize, j: usize) -> i64
-    requires first { i < 9 }
-    requires second { j < 9 }
-    requires positive { pos 0 <ℤ (form_at t.now).h i i }
-    requires pivot { abs ((form_at t.now).h i i) ≤ℤ pos 1073741824 }
-    requires entry { abs ((form_at t.now).h i j) ≤ℤ pos 1073741824 }
-    ensures { result ≡ slope_of (form_at t.now) i j }
+/// A step that is being taken: the form, whose row at the cut's axis passed the first two tests, and the cut.
+#[derive(Clone, Copy)]
+pub(crate) struct Taking<'a> {
+    pub(crate) form: &'a FormTable,
+    pub(crate) size: usize,
+    pub(crate) cut: Cut,
+    ghost ready: { Ready size (form_at form.now) cut.axis },
+    ghost cuts: { Cuts size (form_at form.now) cut },
+}
+
+/// 65,536 times `entry / pivot`, to the nearest.
+fn slope(entry: i64, pivot: Positive) -> i64
+    requires small { pivot.value ≤ℤ pos 1073741824 }
+    requires inside { abs entry ≤ℤ pos 1073741824 }
+    ensures { result ≡ nearest (pos 65536 *ℤ entry) pivot.value }
 {
-    if i == j {
-        return 0;
+    rounded(65536 * entry, pivot)
+}
+
+/// 16 times `single / pivot`, to the nearest, held within 65,536.
+fn shift(single: i64, pivot: Positive) -> i64
+    requires small { pivot.value ≤ℤ pos 1073741824 }
+    requires inside { abs single ≤ℤ pos 70368744177664 }
+    ensures { result ≡ clamped (nearest (pos 16 *ℤ single) pivot.value) }
+{
+    limited(rounded(16 * single, pivot))
+}
+
+impl FormView<'_> {
+    fn slope_at(&self, i: usize, j: usize) -> i64
+        requires ready { Ready self.now.size (form_at self.now.form.now) i }
+        requires inside { j < self.now.size }
+        ensures { result ≡ slope_of (form_at self.now.form.now) i j }
+    {
+        if i == j {
+            return 0;
+        }
+        let row = &self.form.entries[i];
+        slope(row[j], Positive { value: row[i] })
     }
-    let pivot = t.entries[i][i];
-    rounded(65536 * t.entries[i][j], Positive { value: pivot })
-}
 
-fn slopes(t: &FormTable, n: usize, i: usize) -> [i64; 9]
-    requires ready { Ready n (form_at t.now) i }
-    ensures { (j : ℕ) → j < n → number_at result j ≡ slope_of (form_at t.now) i j }
-{
-    let mut out = [0; 9];
-    for j in 0..n {
-        out[j] = slope(t, i, j);
+    /// The square of coordinate i.
+    pub(crate) fn cut_at(&self, i: usize) -> Cut
+        requires ready { Ready self.now.size (form_at self.now.form.now) i }
+        ensures axis { result.axis ≡ i }
+        ensures cuts { Cuts self.now.size (form_at self.now.form.now) result }
+    {
+        let pivot = self.form.entries[i][i];
+        Cut {
+            axis: i,
+            pivot,
+            slopes: table(self.size, 0, |j| self.slope_at(i, j)),
+            shift: shift(self.form.singles[i], Positive { value: pivot }),
+        }
     }
-    out
 }
 
-fn shift(t: &FormTable, n: usize, i: usize) -> i64
-    requires ready { Ready n (form_at t.now) i }
-    ensures { result ≡ shift_of (form_at t.now) i }
-{
-    let pivot = t.entries[i][i];
-    limited(rounded(16 * t.singles[i], Positive { value: pivot }))
-}
+impl Taking<'_> {
+    /// The pivot times two slopes.
+    pub(crate) fn pair_product(&self, j: usize, k: usize) -> i64
+        requires first { j < self.now.size }
+        requires second { k < self.now.size }
+        ensures value { result ≡ (form_at self.now.form.now).h self.now.cut.axis self.now.cut.axis *ℤ slope_of (form_at self.now.form.now) self.now.cut.axis j *ℤ slope_of (form_at self.now.form.now) self.now.cut.axis k }
+        ensures small { abs result ≤ℤ pos 4611686018427387904 }
+    {
+        product(self.cut.pivot, self.cut.slopes[j], self.cut.slopes[k])
+    }
 
-/// The square of coordinate i.
-pub(crate) fn cut_at(t: &FormTable, n: usize, i: usize) -> Cut
-    requires ready { Ready n (form_at t.now) i }
-    ensures axis { result.axis ≡ i }
-    ensures cuts { Cuts n (form_at t.now) result }
-{
-    Cut {
-        axis: i,
-        pivot: t.entries[i][i],
-        slopes: slopes(t, n, i),
-        shift: shift(t, n, i),
+    /// The pivot times the shift and a slope.
+    pub(crate) fn single_product(&self, j: usize) -> i64
+        requires { j < self.now.size }
+        ensures value { result ≡ (form_at self.now.form.now).h self.now.cut.axis self.now.cut.axis *ℤ shift_of (form_at self.now.form.now) self.now.cut.axis *ℤ slope_of (form_at self.now.form.now) self.now.cut.axis j }
+        ensures small { abs result ≤ℤ pos 4611686018427387904 }
+    {
+        product(self.cut.pivot, self.cut.shift, self.cut.slopes[j])
     }
 }

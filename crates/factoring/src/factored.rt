@@ -13,6 +13,7 @@ use model::sums::Sums;
 #[derive(Clone, Copy)]
 pub struct Factored {
     pub sums: Sums,
+    // Nine places and a count: no step of a narrowing allocates, and a certificate is copied whole.
     pub order: [usize; 9],
     pub count: usize,
     pub steps: [StepTable; 9],

@@ -13,49 +13,35 @@ ghost use Rattle.factoring.specs.Made.{MadeOf};
 ghost use Rattle.factoring.specs.Cuts.{Agree, Ran};
 
 use crate::factored::Factored;
-use crate::orders::{from_zero, order_fault};
+use crate::orders::{check_order, from_zero};
 use crate::start::start;
-use crate::steps::step_at;
 use crate::tables::{FormTable, StepTable};
-use crate::terms::{leftover_terms, rest_terms};
+use crate::terms::leftover_terms;
+use crate::view::FormView;
 use model::sums::Sums;
 use narrower::faults::{FactorFault, ProposalFault};
 
-const NO_STEP: StepTable = StepTable {
-    axis: 0,
-    pivot: 0,
-    slopes: [0; 9],
-    shift: 0,
-    slacks: [(0, 0); 9],
-    slack0: (0, 0),
-    gaps: [[(0, 0); 9]; 9],
-    gaps0: [(0, 0); 9],
-};
-
-/// Takes the squares of the listed coordinates, counted from 0, off the form: the steps, and the form that they leave.
-fn steps_of(
-    t: &FormTable,
-    n: usize,
-    order: &[usize],
-) -> Result<([StepTable; 9], FormTable), FactorFault>
-    requires few { n ≤ 9 }
-    requires short { length order.now ≤ 9 }
-    requires inside { (k : ℕ) → k < length order.now → slice_index order.now k < n }
-    requires sized { SizedForm n 0 (form_at t.now) }
-    ensures { (f : Form) → Agree n (form_at t.now) f → Ran n (length order.now) result (factor n 1 f order.now) }
-{
-    let mut steps = [NO_STEP; 9];
-    let mut rest = *t;
-    for k in 0..order.len() {
-        match step_at(&rest, n, k, order[k]) {
-            Ok((s, after)) => {
-                steps[k] = s;
-                rest = after;
-            }
-            Err(e) => return Err(e),
+impl FormView<'_> {
+    /// Takes the squares of the listed coordinates, counted from 0, off the form: the steps, and the form that they leave.
+    fn steps(&self, order: &[usize]) -> Result<([StepTable; 9], FormTable), FactorFault>
+        requires short { length order.now ≤ 9 }
+        requires inside { (k : ℕ) → k < length order.now → slice_index order.now k < self.now.size }
+        requires sized { SizedForm self.now.size 0 (form_at self.now.form.now) }
+        ensures { (f : Form) → Agree self.now.size (form_at self.now.form.now) f → Ran self.now.size (length order.now) result (factor self.now.size 1 f order.now) }
+    {
+        let mut steps = [StepTable::default(); 9];
+        let mut rest = *self.form;
+        for (k, i) in order.iter().enumerate() {
+            let view = FormView {
+                form: &rest,
+                size: self.size,
+            };
+            let (step, after) = view.step_at(k, *i)?;
+            steps[k] = step;
+            rest = after;
         }
+        Ok((steps, rest))
     }
-    Ok((steps, rest))
 }
 
 impl Factored {
@@ -66,15 +52,13 @@ impl Factored {
         ensures passes { DominantSumsPass }
         ensures small { FactoringStaysSmall }
     {
-        let n = sums.row.size;
-        if let Some(place) = order_fault(n, order) {
-            return Err(ProposalFault::Order(place));
-        }
+        let size = sums.row.size;
+        check_order(size, order)?;
         let taken = from_zero(order);
         let count = order.len();
-        let t = start(&sums);
-        let (steps, left) = steps_of(&t, n, &taken[0..count])?;
-        let rest = rest_terms(&left, n);
+        let form = &start(&sums);
+        let (steps, left) = FormView { form, size }.steps(&taken[..count])?;
+        let rest = FormView { form: &left, size }.terms();
         let leftovers = leftover_terms(&sums);
         Ok(Factored {
             sums,

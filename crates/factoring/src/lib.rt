@@ -13,3 +13,4 @@ pub(crate) mod start;
 pub(crate) mod steps;
 pub mod tables;
 pub(crate) mod terms;
+pub(crate) mod view;

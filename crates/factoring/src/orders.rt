@@ -2,19 +2,18 @@
 
 ghost use Rattle.std.specs.Prelude.{◌≡◌, ℕ, ◌<◌, ◌≤◌, not, length, take, ◌==◌, slice_index};
 ghost use Rattle.model.specs.Firsts.{every};
-ghost use Rattle.factoring.specs.Orders.{entry_fits, order_place, from_zero};
+ghost use Rattle.narrower.specs.Faults.{refusal_of};
+ghost use Rattle.factoring.specs.Orders.{entry_fits, entries_refusal, from_zero};
+
+use crate::tables::table;
+use narrower::faults::ProposalFault;
 
 /// Whether no earlier entry names what entry k names.
 fn is_new(order: &[usize], k: usize) -> bool
     requires { k < length order.now }
     ensures { result ≡ every k (λ j. not (slice_index order.now j == slice_index order.now k)) }
 {
-    for j in 0..k {
-        if order[j] == order[k] {
-            return false;
-        }
-    }
-    true
+    !order[..k].contains(&order[k])
 }
 
 /// Whether entry k is a coordinate from 1 to n that no earlier entry names.
@@ -25,19 +24,17 @@ fn entry_fits(n: usize, order: &[usize], k: usize) -> bool
     0 < order[k] && order[k] <= n && is_new(order, k)
 }
 
-/// The place at fault: 0 for an order that is empty or longer than n, then the first entry, from 1, that is outside 1 to n or repeated.
-pub(crate) fn order_fault(n: usize, order: &[usize]) -> Option<usize>
-    ensures { result ≡ order_place n order.now }
+/// Refuses an order that is empty or longer than n, then the first entry that is outside 1 to n or repeated.
+pub(crate) fn check_order(n: usize, order: &[usize]) -> Result<(), ProposalFault>
+    ensures { refusal_of result ≡ entries_refusal n order.now }
 {
-    if order.len() == 0 || order.len() > n {
-        return Some(0);
+    if order.is_empty() || order.len() > n {
+        return Err(ProposalFault::OrderLength);
     }
-    for k in 0..order.len() {
-        if !entry_fits(n, order, k) {
-            return Some(k + 1);
-        }
+    match (0..order.len()).find(|k| !entry_fits(n, order, *k)) {
+        Some(k) => Err(ProposalFault::Order(k + 1)),
+        None => Ok(()),
     }
-    None
 }
 
 /// The order's coordinates, counted from 0.
@@ -46,9 +43,5 @@ pub(crate) fn from_zero(order: &[usize]) -> [usize; 9]
     requires positive { (k : ℕ) → k < length order.now → 0 < slice_index order.now k }
     ensures { take (length order.now) result ≡ from_zero order.now }
 {
-    let mut out = [0; 9];
-    for k in 0..order.len() {
-        out[k] = order[k] - 1;
-    }
-    out
+    table(order.len(), 0, |k| order[k] - 1)
 }

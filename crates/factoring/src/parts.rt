@@ -33,7 +33,8 @@ pub(crate) fn product(p: i64, a: i64, b: i64) -> i64
     requires first { abs p ≤ℤ pos 1073741824 }
     requires second { abs a ≤ℤ pos 65536 }
     requires third { abs b ≤ℤ pos 65536 }
-    ensures { result ≡ p *ℤ a *ℤ b }
+    ensures value { result ≡ p *ℤ a *ℤ b }
+    ensures small { abs result ≤ℤ pos 4611686018427387904 }
 {
     p * a * b
 }
@@ -42,7 +43,8 @@ pub(crate) fn product(p: i64, a: i64, b: i64) -> i64
 pub(crate) fn scaled(p: i64, a: i64) -> i64
     requires first { abs p ≤ℤ pos 1073741824 }
     requires second { abs a ≤ℤ pos 65536 }
-    ensures { result ≡ p *ℤ a }
+    ensures value { result ≡ p *ℤ a }
+    ensures small { abs result ≤ℤ pos 4611686018427387904 }
 {
     p * a
 }

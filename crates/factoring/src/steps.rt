@@ -1,59 +1,65 @@
 //! One step of a factoring.
 
-ghost use Rattle.std.specs.Prelude.{◌≡◌, ◌<◌, ◌≤◌, true};
+ghost use Rattle.std.specs.Prelude.{◌≡◌, ◌<◌, true};
 ghost use Rattle.factoring.specs.Sizes.{SizedForm};
 ghost use Rattle.factoring.specs.Steps.{step_of};
 ghost use Rattle.factoring.specs.Stored.{form_at, step_at, same_step};
-ghost use Rattle.factoring.specs.Cuts.{Ready, Cuts, StepAnswer};
+ghost use Rattle.factoring.specs.Cuts.{StepAnswer};
 
-use crate::cuts::{Cut, cut_at};
-use crate::left::{gaps, gaps_of_singles, slack_of_single, slacks};
-use crate::next::next_form;
-use crate::refusals::{is_large, is_steep};
+use crate::cuts::Taking;
 use crate::tables::{FormTable, StepTable};
+use crate::view::FormView;
 use narrower::faults::FactorFault;
 
-/// The cut, with what its roundings leave over.
-fn step_of(t: &FormTable, n: usize, c: &Cut) -> StepTable
-    requires ready { Ready n (form_at t.now) c.now.axis }
-    requires cuts { Cuts n (form_at t.now) c.now }
-    ensures { same_step n (step_at result) (step_of (form_at t.now) c.now.axis) ≡ true }
-{
-    StepTable {
-        axis: c.axis,
-        pivot: c.pivot,
-        slopes: c.slopes,
-        shift: c.shift,
-        slacks: slacks(t, n, c),
-        slack0: slack_of_single(t, n, c),
-        gaps: gaps(t, n, c),
-        gaps0: gaps_of_singles(t, n, c),
+impl Taking<'_> {
+    /// The cut, with what its roundings leave over.
+    fn step(&self) -> StepTable
+        ensures { same_step self.now.size (step_at result) (step_of (form_at self.now.form.now) self.now.cut.axis) ≡ true }
+    {
+        StepTable {
+            axis: self.cut.axis,
+            pivot: self.cut.pivot,
+            slopes: self.cut.slopes,
+            shift: self.cut.shift,
+            slacks: self.slacks(),
+            slack0: self.slack_of_single(),
+            gaps: self.gaps(),
+            gaps0: self.gaps_of_singles(),
+        }
     }
 }
 
-/// Takes the square of coordinate i off the form, after k steps: the step, and the form that it leaves.
-pub(crate) fn step_at(
-    t: &FormTable,
-    n: usize,
-    k: usize,
-    i: usize,
-) -> Result<(StepTable, FormTable), FactorFault>
-    requires few { n ≤ 9 }
-    requires inside { i < n }
-    requires early { k < 9 }
-    requires sized { SizedForm n k (form_at t.now) }
-    ensures { StepAnswer n k (form_at t.now) i result }
-{
-    if t.entries[i][i] <= 0 {
-        return Err(FactorFault::NoPivot(k + 1, i + 1));
+impl FormView<'_> {
+    /// Takes the square of coordinate i off the form, after k steps: the step, and the form that it leaves.
+    pub(crate) fn step_at(
+        &self,
+        k: usize,
+        i: usize,
+    ) -> Result<(StepTable, FormTable), FactorFault>
+        requires inside { i < self.now.size }
+        requires early { k < 9 }
+        requires sized { SizedForm self.now.size k (form_at self.now.form.now) }
+        ensures { StepAnswer self.now.size k (form_at self.now.form.now) i result }
+    {
+        if self.form.entries[i][i] <= 0 {
+            return Err(FactorFault::NoPivot(k + 1, i + 1));
+        }
+        if self.is_steep(i) {
+            return Err(FactorFault::Steep(k + 1, i + 1));
+        }
+        let taking = Taking {
+            form: self.form,
+            size: self.size,
+            cut: self.cut_at(i),
+        };
+        let after = taking.next_form();
+        let next = FormView {
+            form: &after,
+            size: self.size,
+        };
+        if next.is_large() {
+            return Err(FactorFault::Large(k + 1, i + 1));
+        }
+        Ok((taking.step(), after))
     }
-    if is_steep(t, n, i) {
-        return Err(FactorFault::Steep(k + 1, i + 1));
-    }
-    let c = cut_at(t, n, i);
-    let after = next_form(t, n, &c);
-    if is_large(&after, n) {
-        return Err(FactorFault::Large(k + 1, i + 1));
-    }
-    Ok((step_of(t, n, &c), after))
 }

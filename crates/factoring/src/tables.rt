@@ -1,6 +1,9 @@
 //! The tables that a factoring fills. Coordinates count from 0; what stands beyond the size of the row counts for nothing.
 
+ghost use Rattle.std.specs.Prelude.{ℕ, ◌<◌, ◌≤◌, [], slice_index_or};
+
 use numbers::ranges::Range;
+use std::array;
 
 /// A form: its entries, both ways round, and its singles.
 #[derive(Clone, Copy)]
@@ -10,7 +13,7 @@ pub struct FormTable {
 }
 
 /// One step: the square that it takes off, pivot·(x_axis + Σ slope_j·x_j / 65,536 + shift / 16)², and what its roundings leave over.
-#[derive(Clone, Copy)]
+#[derive(Clone, Copy, Default)]
 pub struct StepTable {
     pub axis: usize,
     pub pivot: i64,
@@ -28,4 +31,34 @@ pub struct TermTable {
     pub squares: [Range; 9],
     pub pairs: [[Range; 9]; 9],
     pub singles: [Range; 9],
+}
+
+/// Nine places: what `entry` gives at each of the first `size`, and `blank` at the others.
+pub(crate) fn table<T: Copy, F: Fn(usize) -> T>(size: usize, blank: T, entry: F) -> [T; 9]
+    requires few { size ≤ 9 }
+    requires callable { (j : ℕ) → j < size → F.pre entry j }
+    ensures { (j : ℕ) (d : T) → j < size → F.post entry j (slice_index_or result j d) }
+{
+    array::from_fn(|j| -> T
+        requires { j < size → F.pre entry j }
+        ensures { j < size → F.post entry j result }
+    { if j < size { entry(j) } else { blank } })
+}
+
+/// Nine rows of nine: what `entry` gives at each two of the first `size` places, and `blank` at the others.
+pub(crate) fn grid<T: Copy, F: Fn(usize, usize) -> T>(size: usize, blank: T, entry: F) -> [[T; 9]; 9]
+    requires few { size ≤ 9 }
+    requires callable { (j k : ℕ) → j < size → k < size → F.pre entry j k }
+    ensures { (j k : ℕ) (d : T) → j < size → k < size → F.post entry j k (slice_index_or (slice_index_or result j []) k d) }
+{
+    table(size, [blank; 9], |j| -> [T; 9]
+        requires few { size ≤ 9 }
+        requires callable { (k : ℕ) → k < size → F.pre entry j k }
+        ensures { (k : ℕ) (d : T) → k < size → F.post entry j k (slice_index_or result k d) }
+    {
+        table(size, blank, |k| -> T
+            requires { F.pre entry j k }
+            ensures { F.post entry j k result }
+        { entry(j, k) })
+    })
 }

@@ -1,6 +1,6 @@
 -- The products fit.
 use Rattle.std.proofs.lemmas.Int.{to_z-of_z}
-use Rattle.factoring.proofs.Fits.{fits_two, fits_three}
+use Rattle.factoring.proofs.Fits.{fits_two, fits_three, small_three}
 use Rattle.factoring.proofs.parts.product.Goals as goal
 
 pub overflow_mul-result : goal.overflow_mul-result
@@ -24,4 +24,4 @@ returns c =
     let fb = c.ranges.b in
     let g = fits_two c.args.p c.args.a c.requires.first c.requires.second in
     let h = fits_three c.args.p c.args.a c.args.b c.requires.first c.requires.second c.requires.third in
-    simp to_z-of_z
+    record { value = simp to_z-of_z; small = simp to_z-of_z (small_three c.args.p c.args.a c.args.b c.requires.first c.requires.second c.requires.third) }

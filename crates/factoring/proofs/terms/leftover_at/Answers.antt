@@ -6,4 +6,4 @@ use Rattle.factoring.proofs.SmallSizes.{pair_spans}
 use Rattle.factoring.proofs.terms.leftover_at.Goals as goal
 
 pub leftover_of-requires : goal.leftover_of-requires
-leftover_of-requires c = subst (λ (s : Range). Spans s 67108864) (sym c.ends.ensures) (pair_spans (drafted c.args.sums.now.row) c.args.sums.now.fits c.args.j c.args.k c.if-j-k.true c.requires.second)
+leftover_of-requires c = subst (λ (s : Range). Spans s 67108864) (sym c.ends.ensures) (pair_spans (drafted c.args.sums.now.row) c.args.sums.now.fits c.args.j c.args.k c.requires.first c.requires.second)
