@@ -1,5 +1,5 @@
 -- Choices by two indices.
-use Rattle.std.proofs.Common.{◌≡◌, ℕ, cond, eqb, refl}
+use Rattle.std.proofs.Common.{◌≡◌, ℕ, cond, eqb}
 use Rattle.std.proofs.lemmas.Bool.{ne_eqb, eq-eqb}
 
 -- that are the same

@@ -6,7 +6,6 @@ use Rattle.std.proofs.lemmas.List.FromFn.{fill_by_all}
 use Rattle.std.proofs.lemmas.Bool.{cond-true, and_from, lt-ltb, le-leb}
 use Rattle.model.specs.Firsts.{first_below}
 use Rattle.model.proofs.Firsts.{first_more, first_here}
-use Rattle.narrower.specs.declared.faults.ProposalFault.{ProposalFault}
 use Rattle.narrower.specs.declared.faults.ProposalFault.TheVariants.{OrderLength, Order}
 use Rattle.factoring.specs.Orders.{entry_fits, entries_refusal, from_zero}
 

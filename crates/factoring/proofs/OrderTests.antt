@@ -6,7 +6,6 @@ use Rattle.std.proofs.lemmas.Bool.{cases_eq, and_parts, ltb-true, leb-true, eqb-
 use Rattle.std.specs.Option.{option_map}
 use Rattle.model.specs.Firsts.{first_below}
 use Rattle.model.proofs.Firsts.{decides_every}
-use Rattle.narrower.specs.declared.faults.ProposalFault.{ProposalFault}
 use Rattle.narrower.specs.declared.faults.ProposalFault.TheVariants.{OrderLength, Order}
 use Rattle.factoring.specs.Orders.{entry_fits, entries_refusal, from_zero}
 use Rattle.factoring.specs.Stored.{entries_below}

@@ -1,5 +1,5 @@
 -- The bounds of a step that is being taken, and what is computed from its cut.
-use Rattle.std.proofs.Common.{◌≡◌, ℕ, ◌<◌, ℤ, pos, ◌*ℤ◌, ◌≤ℤ◌, ◌<ℤ◌, arith}
+use Rattle.std.proofs.Common.{◌≡◌, ℕ, ◌<◌, pos, ◌*ℤ◌, ◌≤ℤ◌, ◌<ℤ◌, arith}
 use borrow.Author.Differences.{ints}
 use Rattle.numbers.proofs.Order.{le_trans}
 use Rattle.numbers.specs.Magnitudes.{abs}

@@ -19,7 +19,11 @@ impl Taking<'_> {
             return (0, 0);
         }
         let product = scaled(self.cut.pivot, self.cut.slopes[j]);
-        left_around(self.form.entries[self.cut.axis][j], product, Positive { value: 65536 })
+        left_around(
+            self.form.entries[self.cut.axis][j],
+            product,
+            Positive { value: 65536 },
+        )
     }
 
     /// What is left of the terms with the step's coordinate and another.
@@ -34,7 +38,11 @@ impl Taking<'_> {
         ensures { result ≡ (step_of (form_at self.now.form.now) self.now.cut.axis).slack0 }
     {
         let product = scaled(self.cut.pivot, self.cut.shift);
-        left_around(self.form.singles[self.cut.axis], product, Positive { value: 16 })
+        left_around(
+            self.form.singles[self.cut.axis],
+            product,
+            Positive { value: 16 },
+        )
     }
 
     fn gap_at(&self, j: usize, k: usize) -> Range

@@ -31,11 +31,7 @@ impl Taking<'_> {
 
 impl FormView<'_> {
     /// Takes the square of coordinate i off the form, after k steps: the step, and the form that it leaves.
-    pub(crate) fn step_at(
-        &self,
-        k: usize,
-        i: usize,
-    ) -> Result<(StepTable, FormTable), FactorFault>
+    pub(crate) fn step_at(&self, k: usize, i: usize) -> Result<(StepTable, FormTable), FactorFault>
         requires inside { i < self.now.size }
         requires early { k < 9 }
         requires sized { SizedForm self.now.size k (form_at self.now.form.now) }

@@ -39,26 +39,40 @@ pub(crate) fn table<T: Copy, F: Fn(usize) -> T>(size: usize, blank: T, entry: F)
     requires callable { (j : ℕ) → j < size → F.pre entry j }
     ensures { (j : ℕ) (d : T) → j < size → F.post entry j (slice_index_or result j d) }
 {
-    array::from_fn(|j| -> T
-        requires { j < size → F.pre entry j }
-        ensures { j < size → F.post entry j result }
-    { if j < size { entry(j) } else { blank } })
+    array::from_fn(
+        |j| -> T
+            requires { j < size → F.pre entry j }
+            ensures { j < size → F.post entry j result }
+        { if j < size { entry(j) } else { blank } },
+    )
 }
 
 /// Nine rows of nine: what `entry` gives at each two of the first `size` places, and `blank` at the others.
-pub(crate) fn grid<T: Copy, F: Fn(usize, usize) -> T>(size: usize, blank: T, entry: F) -> [[T; 9]; 9]
+pub(crate) fn grid<T: Copy, F: Fn(usize, usize) -> T>(
+    size: usize,
+    blank: T,
+    entry: F,
+) -> [[T; 9]; 9]
     requires few { size ≤ 9 }
     requires callable { (j k : ℕ) → j < size → k < size → F.pre entry j k }
     ensures { (j k : ℕ) (d : T) → j < size → k < size → F.post entry j k (slice_index_or (slice_index_or result j []) k d) }
 {
-    table(size, [blank; 9], |j| -> [T; 9]
-        requires few { size ≤ 9 }
-        requires callable { (k : ℕ) → k < size → F.pre entry j k }
-        ensures { (k : ℕ) (d : T) → k < size → F.post entry j k (slice_index_or result k d) }
-    {
-        table(size, blank, |k| -> T
-            requires { F.pre entry j k }
-            ensures { F.post entry j k result }
-        { entry(j, k) })
-    })
+    table(
+        size,
+        [blank; 9],
+        |j| -> [T; 9]
+            requires few { size ≤ 9 }
+            requires callable { (k : ℕ) → k < size → F.pre entry j k }
+            ensures { (k : ℕ) (d : T) → k < size → F.post entry j k (slice_index_or result k d) }
+        {
+            table(
+                size,
+                blank,
+                |k| -> T
+                    requires { F.pre entry j k }
+                    ensures { F.post entry j k result }
+                { entry(j, k) },
+            )
+        },
+    )
 }

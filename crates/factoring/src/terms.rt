@@ -54,7 +54,15 @@ pub(crate) fn leftover_terms(sums: &Sums) -> TermTable
     let size = sums.row.size;
     TermTable {
         squares: [(0, 0); 9],
-        pairs: grid(size, (0, 0), |j, k| if j < k { leftover_at(sums, j, k) } else { (0, 0) }),
+        pairs: grid(
+            size,
+            (0, 0),
+            |j, k| if j < k {
+                leftover_at(sums, j, k)
+            } else {
+                (0, 0)
+            },
+        ),
         singles: table(size, (0, 0), |j| leftover_of_single(sums, j)),
     }
 }

@@ -1,5 +1,5 @@
 -- Each entry is one less.
-use Rattle.std.proofs.Common.{rules, arith}
+use Rattle.std.proofs.Common.{rules}
 use Rattle.factoring.proofs.OrderSteps.{from_zero_of}
 use Rattle.factoring.proofs.orders.from_zero.Goals as goal
 

@@ -1,7 +1,5 @@
 -- Each entry and each single is the one of its place.
 use Rattle.std.proofs.Common.{pos, rules}
-use Rattle.model.specs.Drafts.{drafted}
-use Rattle.factoring.proofs.SmallSizes.{few_sums}
 use Rattle.factoring.proofs.start.start.Goals as goal
 
 pub returns : goal.returns

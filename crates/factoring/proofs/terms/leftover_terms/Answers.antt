@@ -1,10 +1,9 @@
 -- What the pairs and the singles have around their middles.
-use Rattle.std.proofs.Common.{pos, sym, subst, arith, rules}
+use Rattle.std.proofs.Common.{pos, arith, rules}
 use Rattle.std.proofs.lemmas.List.{get_or-replicate}
-use Rattle.numbers.specs.Ranges.{Range, Spans}
 use Rattle.model.specs.Drafts.{drafted}
 use Rattle.factoring.specs.Stored.{leftover_parts}
-use Rattle.factoring.proofs.SmallSizes.{few_sums, single_spans}
+use Rattle.factoring.proofs.SmallSizes.{few_sums}
 use Rattle.factoring.proofs.StoredTests.{decides_parts}
 use Rattle.factoring.proofs.terms.leftover_terms.Goals as goal
 

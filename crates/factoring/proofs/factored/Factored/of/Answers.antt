@@ -7,7 +7,6 @@ use Rattle.factoring.specs.Forms.{form_of}
 use Rattle.factoring.specs.Orders.{entries_refusal, from_zero}
 use Rattle.factoring.specs.Factoring.{factored}
 use Rattle.factoring.specs.Cuts.{Ran}
-use Rattle.factoring.proofs.SmallSizes.{few_sums}
 use Rattle.factoring.proofs.StepSizes.{steps_stay_small, factors_stay_small}
 use Rattle.factoring.proofs.Dominating.{dominant_sums_pass}
 use Rattle.factoring.proofs.Making.{refused, order_refused, few_entries, positive_entries, taken_short, taken_inside, taken-below, ran_order, made-stored, start-sized, none_refused, step_refused}

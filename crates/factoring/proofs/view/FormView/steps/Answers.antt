@@ -1,5 +1,5 @@
 -- The steps, one after the other.
-use Rattle.std.proofs.Common.{◌≡◌, ℕ, length, get_or, Err, Result, List, sym, ap, ◌∙◌, subst, arith}
+use Rattle.std.proofs.Common.{◌≡◌, length, get_or, Err, Result, List, sym, ap, ◌∙◌, subst, arith}
 use Rattle.std.proofs.lemmas.List.{length-set}
 use Rattle.std.proofs.lemmas.Result.{err_from_is_err_and}
 use Rattle.narrower.specs.declared.faults.FactorFault.{FactorFault}
