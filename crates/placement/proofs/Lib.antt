@@ -1,4 +1,4 @@
--- The lemmas on what a placement holds, on making it, narrowing it and checking by it, and on runs of calls.
+-- The lemmas on making a placement, on narrowing it and checking by it, and on runs of calls.
 pub mod Making
 pub mod Answering
 pub mod Walking

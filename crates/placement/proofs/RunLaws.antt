@@ -11,7 +11,7 @@ use Rattle.narrower.specs.Narrowings.{Narrowing, Lawful, Holds}
 use Rattle.narrower.specs.Good.{Good, Met, good}
 use Rattle.narrower.specs.LayerLaws.{pair_lawful, rounds_lawful, star_lawful}
 use Rattle.placement.specs.declared.standing.Standing.{Standing}
-use Rattle.placement.specs.declared.standing.Standing.TheVariants.{Unmade, Open, Nowhere}
+use Rattle.placement.specs.declared.standing.Standing.TheVariants.{Open, Nowhere}
 use Rattle.placement.specs.States.{State}
 use Rattle.placement.specs.Makes.{opened}
 use Rattle.placement.specs.Narrows.{now_at}
@@ -31,15 +31,9 @@ pile_lawful (star {A} s p) = star_lawful s A (pile_lawful p)
 laws : (n : ℕ) (s : State) (N : Narrowing) → s.size ≡ n → N.size ≡ s.size → Pile N → Good n (Met N.rows) N.map
 laws n s N z e p = subst (λ m. Good m (Met N.rows) N.map) (e ∙ z) (good N (pile_lawful p))
 
--- a placement that is open
-abbrev IsOpen : Standing → Type 0
-IsOpen Unmade = ⊥
-IsOpen Open = Unit {0}
-IsOpen Nowhere = ⊥
-
 -- no placement is open and stands at none
 open_or_none : {A : Type 0} (st : Standing) → st ≡ Open → st ≡ Nowhere → A
-open_or_none st e f = absurd (subst IsOpen (sym e ∙ f) tt)
+open_or_none st e f = absurd (cc)
 
 -- ---- from a box a run ends in a box inside it
 

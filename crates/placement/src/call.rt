@@ -2,7 +2,7 @@
 
 use certificate::certificate::Certificate;
 
-/// One call of a run.
+/// One call of a run. It is an enum, since what a run promises is stated over the list of its calls, and a closure tells no clause what it stands for.
 #[derive(Drop)]
 pub enum Call<'a, N> {
     /// Narrows by a narrower.
