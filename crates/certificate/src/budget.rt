@@ -54,7 +54,9 @@ impl HeldBox<'_> {
         requires { SmallParts (length self.spans.now) entry_limit (singles_bound 9) (parts_at rest.now) }
         ensures { result ≡ parts_charge (length self.entry.spans.now) self.entry.spans.now (parts_at rest.now) }
     {
-        self.squares(&rest.squares) + 2 * self.mixed(rest)
+        let squares = self.squares(&rest.squares);
+        let mixed = self.mixed(rest);
+        squares + 2 * mixed
     }
 }
 
