@@ -13,5 +13,6 @@ pub mod Enclosures
 pub mod Squares
 pub mod Quotients
 pub mod Held
+pub mod Folds
 pub mod Characters
 pub mod Cuts
