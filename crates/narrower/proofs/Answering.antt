@@ -45,12 +45,25 @@ pub box_checked : (n : ℕ) (X : List Span) → n ≤ most_coordinates → Ok tt
 box_checked n X few h = box_of_unrefused n X few (unrefused n X h)
 
 -- the copy of a box begins with the box
+pub copy_taken : {n : ℕ} (X V : List Span) → IsBox n X → V ≡ padded X → take (length X) V ≡ X
+copy_taken X V b e = ap (take (length X)) e ∙ take-padded X (omega (arith, b.long, b.few))
+
+-- the same where the code takes it from 0 on
 pub copy_begins : {n : ℕ} (X V : List Span) → IsBox n X → V ≡ padded X → take (length X - 0) V ≡ X
-copy_begins X V b e = ap (λ m. take m V) (sub-zero (length X)) ∙ ap (take (length X)) e ∙ take-padded X (omega (arith, b.long, b.few))
+copy_begins X V b e = ap (λ m. take m V) (sub-zero (length X)) ∙ copy_taken X V b e
 
 -- so it is as long
 pub copy_long : {n : ℕ} (X V : List Span) → IsBox n X → V ≡ padded X → length X ≤ length V
 copy_long X V b e = omega (arith, ap length (copy_begins X V b e), length-take (length X - 0) V)
+
+-- a box X of the narrower N, and a copy P of it
+pub record Copied (N : Narrowing) (X P : List Span) : Type 0 where
+  pub box : IsBox N.size X
+  pub same : P ≡ X
+
+-- a run that passes the check of a size up to 9, and the part of its copy
+pub copied : {N : Narrowing} (X V : List Span) → N.size ≤ most_coordinates → Ok tt ≡ checked N.size X → V ≡ padded X → Copied N X (take (length X) V)
+copied {N} X V few k e = let b = box_checked N.size X few k in record { box = b; same = copy_taken X V b e }
 
 -- a box is not refused
 pub unrefused_box : (n : ℕ) (X : List Span) → IsBox n X → refusal n X ≡ None

@@ -1,17 +1,17 @@
 -- One round after another: what a loop of them knows, and what its answers come to.
-use Rattle.std.proofs.Common.{◌≡◌, ℕ, zero, suc, ◌+◌, ◌-◌, ◌<◌, ◌≤◌, min, ◌⊎◌, List, length, take, Some, None, Ok, Err, Option, sym, refl, ap, ◌∙◌, subst, inl, inr, add-zero, add-suc, add-one, arith}
+use Rattle.std.proofs.Common.{◌≡◌, ℕ, zero, suc, ◌+◌, ◌-◌, ◌<◌, ◌≤◌, min, ◌⊎◌, List, Some, None, Err, Option, sym, refl, ap, ◌∙◌, subst, inl, inr, add-zero, add-suc, add-one, arith}
 use Rattle.std.proofs.lemmas.Bool.{cases_lt}
 use Rattle.model.specs.declared.span.Span.{Span}
-use Rattle.model.specs.Boxes.{IsBox, Inside, padded}
-use Rattle.model.proofs.Boxes.{inside_refl, inside_trans, inside_antisym}
+use Rattle.model.specs.Boxes.{IsBox, Inside}
+use Rattle.model.proofs.Boxes.{inside_trans, inside_antisym}
 use Rattle.narrower.specs.declared.answer.Answer.TheVariants.{Stood, Narrowed, Empty}
 use Rattle.narrower.specs.declared.faults.NarrowFault.{NarrowFault}
 use Rattle.narrower.specs.Maps.{Map, then}
 use Rattle.narrower.specs.Narrowings.{Narrowing, Lawful}
-use Rattle.narrower.specs.Answers.{checked, answer_of}
+use Rattle.narrower.specs.Answers.{answer_of}
 use Rattle.narrower.specs.Layers.{again, most_rounds, rounds_of}
 use Rattle.narrower.specs.Rounds.{Settled, Turns, Turned}
-use Rattle.narrower.proofs.Answering.{Told, box_checked, copy_begins, copy_long, box_given, inside_given, never, said, says}
+use Rattle.narrower.proofs.Answering.{Told, Copied, box_given, inside_given, never, said, says}
 
 -- ---- a map over and over
 
@@ -43,36 +43,33 @@ pub record Going (N : Narrowing) (X P : List Span) (i : ℕ) : Type 0 where
   pub stood : i ≡ 0 → P ≡ X
   pub moved : 0 < i → P ≡ X → ⊥
 
--- before the first round
-pub going_none : (N : Narrowing) (X : List Span) → IsBox N.size X → Going N X X 0
-going_none N X b = record { made = refl; box = b; low = inside_refl X; stood = λ e. refl; moved = λ h. absurd (omega arith) }
+-- a round refuses nothing
+pub turn_never : {N : Narrowing} {X P : List Span} {i : ℕ} {e : NarrowFault} → Going N X P i → Err e ≡ answer_of N P → ⊥
+turn_never {N} {P} {e} h r = never N P h.box e r
+
+-- what a round gives is one more
+more : {N : Narrowing} {X P : List Span} {i : ℕ} {o : Option (List Span)} → Going N X P i → N.map P ≡ o → again (i + 1) N.map X ≡ o
+more {N} {X} {P} {i} h e = again_more N.map X i ∙ ap (λ p. then p N.map) h.made ∙ e
 
 -- a round leaves Q
-module _ (N : Narrowing) (law : Lawful N) (X P Q : List Span) (i k : ℕ) (h : Going N X P i) where
-  -- it refuses nothing
-  pub turn_never : (e : NarrowFault) → Err e ≡ answer_of N P → ⊥
-  turn_never e r = never N P h.box e r
-
-  more : {o : Option (List Span)} → N.map P ≡ o → again (i + 1) N.map X ≡ o
-  more e = again_more N.map X i ∙ ap (λ p. then p N.map) h.made ∙ e
-
+module _ {N : Narrowing} (law : Lawful N) {X P Q : List Span} {i : ℕ} (h : Going N X P i) where
   -- it changes the box
   pub turn_more : Told N P Q Narrowed → Going N X Q (i + 1)
   turn_more r =
       let c = said N P h.box Narrowed Q r in
       let low = inside_given law h.box c.0 in
       record {
-        made = more c.0;
+        made = more h c.0;
         box = box_given law h.box c.0;
         low = inside_trans Q P X low h.low;
         stood = λ e. absurd (omega arith);
         moved = λ l e. c.1 (inside_antisym Q P low (subst (λ W. Inside P W) (sym e) h.low));
       }
 
-  module _ (lt : i < k) where
+  module _ {k : ℕ} (lt : i < k) where
     -- it finds none
     pub turn_none : Told N P Q Empty → Turned k N X None Q
-    turn_none r = up_to N.map X (i + 1) k None (omega arith) (again_none N.map X (i + 1) (k - (i + 1)) (more (said N P h.box Empty Q r).0))
+    turn_none r = up_to N.map X (i + 1) k None (omega arith) (again_none N.map X (i + 1) (k - (i + 1)) (more h (said N P h.box Empty Q r).0))
 
     -- it leaves the box
     pub turn_stood : Told N P Q Stood → Turned k N X (Some i) Q
@@ -84,14 +81,6 @@ module _ (N : Narrowing) (law : Lawful N) (X P Q : List Span) (i k : ℕ) (h : G
           moved = λ l e. h.moved l (sym c.1 ∙ e);
         }
 
--- all rounds are done
-pub turn_all : (N : Narrowing) (X P : List Span) (i k : ℕ) → Going N X P i → i ≡ k → Turned k N X (Some k) P
-turn_all N X P i k h e = subst (λ n. Turns n N X P n) e (record {
-  settled = record { few = omega arith; made = h.made; fixed = λ l. absurd (omega arith) };
-  stood = h.stood;
-  moved = h.moved;
-})
-
 -- ---- the answers
 
 -- what the loop leaves is what all k rounds give
@@ -102,27 +91,20 @@ settled_map N X Y k r s = by (cases_lt r k)
     by (inl l) = up_to N.map X r k (Some Y) s.few (again_fixed N.map X Y r (k - r) s.made (s.fixed l))
     by (inr l) = let e : r ≡ k = omega (arith, s.few) in subst (λ n. again n N.map X ≡ Some Y) e s.made
 
--- a run X that passes the check, and its copy V
-module _ (N : Narrowing) (law : Lawful N) (k : ℕ) (X V : List Span) (c : Ok tt ≡ checked N.size X) (e : V ≡ padded X) where
-  box : IsBox N.size X
-  box = box_checked N.size X law.small c
-
-  -- the copy is long enough
-  pub rounds_long : length X ≤ length V
-  rounds_long = copy_long X V box e
-
-  -- the copy begins with the box
-  pub rounds_box : IsBox N.size (take (length X - 0) V)
-  rounds_box = subst (IsBox N.size) (sym (copy_begins X V box e)) box
+-- a box X of the narrower below, and its copy P
+module _ {N : Narrowing} {X P : List Span} (k : ℕ) (u : Copied N X P) where
+  -- the copy is a box
+  pub rounds_box : IsBox N.size P
+  rounds_box = subst (IsBox N.size) (sym u.same) u.box
 
   -- a round finds none
-  pub rounds_none : again (min k most_rounds) N.map (take (length X - 0) V) ≡ None → Told (rounds_of k N) X X Empty
-  rounds_none h = says (rounds_of k N) X box Empty X (subst (λ W. again (min k most_rounds) N.map W ≡ None) (copy_begins X V box e) h, refl)
+  pub rounds_none : again (min k most_rounds) N.map P ≡ None → Told (rounds_of k N) X X Empty
+  rounds_none h = says (rounds_of k N) X u.box Empty X (subst (λ W. again (min k most_rounds) N.map W ≡ None) u.same h, refl)
 
   -- the loop leaves Y after r rounds
-  module _ (Y : List Span) (r : ℕ) (t : Turns (min k most_rounds) N (take (length X - 0) V) Y r) where
+  module _ {Y : List Span} {r : ℕ} (t : Turns (min k most_rounds) N P Y r) where
     turns : Turns (min k most_rounds) N X Y r
-    turns = subst (λ W. Turns (min k most_rounds) N W Y r) (copy_begins X V box e) t
+    turns = subst (λ W. Turns (min k most_rounds) N W Y r) u.same t
 
     -- which is what is told
     pub rounds_settled : Settled (min k most_rounds) N X Y r
@@ -133,8 +115,8 @@ module _ (N : Narrowing) (law : Lawful N) (k : ℕ) (X V : List Span) (c : Ok tt
 
     -- no round changed the box
     pub rounds_stood : r ≡ 0 → Told (rounds_of k N) X Y Stood
-    rounds_stood z = says (rounds_of k N) X box Stood Y (all_map ∙ ap Some (turns.stood z), turns.stood z)
+    rounds_stood z = says (rounds_of k N) X u.box Stood Y (all_map ∙ ap Some (turns.stood z), turns.stood z)
 
     -- a round changed it
     pub rounds_narrowed : 0 < r → Told (rounds_of k N) X Y Narrowed
-    rounds_narrowed l = says (rounds_of k N) X box Narrowed Y (all_map, turns.moved l)
+    rounds_narrowed l = says (rounds_of k N) X u.box Narrowed Y (all_map, turns.moved l)

@@ -1,21 +1,21 @@
 -- Three spans taken over from another box, and what the answers of a narrower come to for one star.
-use Rattle.std.proofs.Common.{◌≡◌, ℕ, ◌+◌, ◌-◌, ◌*◌, ◌<◌, ◌≤◌, true, false, cond, List, ◌++◌, length, take, drop, Some, Ok, Err, sym, refl, ap, ◌∙◌, subst, arith, length-drop, length-take}
+use Rattle.std.proofs.Common.{◌≡◌, ℕ, ◌+◌, ◌-◌, ◌*◌, ◌<◌, ◌≤◌, true, false, cond, List, ◌++◌, length, take, drop, Some, Err, sym, refl, ap, ◌∙◌, subst, arith, length-drop, length-take}
 use borrow.Rule.Slice.PartMut.{put_mid}
 use Rattle.std.proofs.lemmas.List.{drop-drop, take_at, drop_at}
 use Rattle.std.proofs.lemmas.Bool.Decides.{nat_tests}
 use Rattle.model.specs.declared.span.Span.{Span}
 use Rattle.model.specs.Limits.{most_coordinates}
-use Rattle.model.specs.Boxes.{IsBox, same_box, padded}
+use Rattle.model.specs.Boxes.{IsBox, same_box}
 use Rattle.model.proofs.Same.{same_box_yes, same_box_no}
 use Rattle.narrower.specs.declared.answer.Answer.{Answer}
 use Rattle.narrower.specs.declared.answer.Answer.TheVariants.{Stood, Narrowed, Empty}
 use Rattle.narrower.specs.declared.faults.NarrowFault.{NarrowFault}
 use Rattle.narrower.specs.Maps.{then}
 use Rattle.narrower.specs.Narrowings.{Narrowing, Lawful}
-use Rattle.narrower.specs.Answers.{checked, answer_of}
+use Rattle.narrower.specs.Answers.{answer_of}
 use Rattle.narrower.specs.Layers.{has_star, spliced, star_of}
 use Rattle.narrower.specs.LayerLaws.{spliced_same}
-use Rattle.narrower.proofs.Answering.{Told, Case, box_checked, copy_begins, copy_long, case_some, box_given, never, said, says}
+use Rattle.narrower.proofs.Answering.{Told, Case, Copied, case_some, box_given, never, said, says}
 
 -- ---- three spans from the place a on
 
@@ -44,41 +44,34 @@ module _ (a : ℕ) (X : List Span) where
 pub star_size : (n s : ℕ) → 0 < cond (has_star n s) n 0 → (cond (has_star n s) n 0 ≡ n) × (0 < s) × (3 * s ≤ n)
 star_size n s h = (grind (arith, nat_tests), grind (arith, nat_tests), grind (arith, nat_tests))
 
--- a run X that passes the check, and its copy V
-module _ (s : ℕ) (N : Narrowing) (law : Lawful N) (X V : List Span) (k : Ok tt ≡ checked (star_of s N).size X) (e : V ≡ padded X) where
-  box : IsBox (star_of s N).size X
-  box = box_checked (star_of s N).size X (let h = law.small in grind (arith, nat_tests)) k
+-- one star of a lawful narrower takes at most nine coordinates
+pub star_few : (s : ℕ) (N : Narrowing) → Lawful N → (star_of s N).size ≤ most_coordinates
+star_few s N law = let h = law.small in grind (arith, nat_tests)
 
+-- a box X of the star s, and its copy P
+module _ (s : ℕ) {N : Narrowing} (law : Lawful N) {X P : List Span} (v : Copied (star_of s N) X P) where
   sized : ((star_of s N).size ≡ N.size) × (0 < s) × (3 * s ≤ N.size)
-  sized = star_size N.size s box.some
+  sized = star_size N.size s v.box.some
 
   below_box : IsBox N.size X
-  below_box = subst (λ n. IsBox n X) sized.0 box
-
-  -- the copy is long enough
-  pub star_long : length X ≤ length V
-  star_long = copy_long X V box e
+  below_box = subst (λ n. IsBox n X) sized.0 v.box
 
   -- the star's spans are among those of the run
-  pub star_within : (0 < s) × (3 * s ≤ length X) × (length X ≤ most_coordinates)
-  star_within =
-      let l = below_box.long in
-      let m = below_box.few in
-      let t = sized.2 in
-      (sized.1, omega arith, omega arith)
+  pub star_within : (0 < s) × (3 * s ≤ length X)
+  star_within = let l = below_box.long in let t = sized.2 in (sized.1, omega arith)
 
   -- the narrower below does not refuse the copy
-  pub star_never : (f : NarrowFault) → Err f ≡ answer_of N (take (length X - 0) V) → ⊥
-  star_never f h = never N X below_box f (subst (λ W. Err f ≡ answer_of N W) (copy_begins X V box e) h)
+  pub star_never : {f : NarrowFault} → Err f ≡ answer_of N P → ⊥
+  star_never {f} h = never N X below_box f (subst (λ W. Err f ≡ answer_of N W) v.same h)
 
   -- the narrower below answers b and leaves Y
-  module _ (Y : List Span) (b : Answer) (r : Told N (take (length X - 0) V) Y b) where
+  module _ {Y : List Span} {b : Answer} (r : Told N P Y b) where
     below-case : Case N X b Y
-    below-case = said N X below_box b Y (subst (λ W. Told N W Y b) (copy_begins X V box e) r)
+    below-case = said N X below_box b Y (subst (λ W. Told N W Y b) v.same r)
 
     -- which is none
     pub star_none : b ≡ Empty → Told (star_of s N) X X Empty
-    star_none n = says (star_of s N) X box Empty X (ap (λ o. then o (λ Z. Some (spliced (3 * s - 3) X Z))) (subst (λ u. Case N X u Y) n below-case).0, refl)
+    star_none n = says (star_of s N) X v.box Empty X (ap (λ o. then o (λ Z. Some (spliced (3 * s - 3) X Z))) (subst (λ u. Case N X u Y) n below-case).0, refl)
 
     -- which is not none
     module _ (some : b ≡ Empty → ⊥) where
@@ -90,7 +83,7 @@ module _ (s : ℕ) (N : Narrowing) (law : Lawful N) (X V : List Span) (k : Ok tt
       star_left = (box_given law below_box below_map).long ∙ sym below_box.long
 
       -- and W is written over the star's spans
-      module _ (W : List Span) (w : W ≡ take ((3 * s - 3 + 3) - (3 * s - 3)) (drop (3 * s - 3) Y)) where
+      module _ {W : List Span} (w : W ≡ take ((3 * s - 3 + 3) - (3 * s - 3)) (drop (3 * s - 3) Y)) where
         abbrev a : ℕ
         a = 3 * s - 3
 
@@ -104,7 +97,7 @@ module _ (s : ℕ) (N : Narrowing) (law : Lawful N) (X V : List Span) (k : Ok tt
         star_map = ap (λ o. then o (λ Z. Some (spliced a X Z))) below_map
 
         star_told : (u : Answer) → Case (star_of s N) X u (spliced a X Y) → Told (star_of s N) X (put_mid a ((a + 3) - a) X W) u
-        star_told u h = subst (λ Z. Told (star_of s N) X Z u) (sym (put_spliced a X ((a + 3) - a) Y W three w)) (says (star_of s N) X box u (spliced a X Y) h)
+        star_told u h = subst (λ Z. Told (star_of s N) X Z u) (sym (put_spliced a X ((a + 3) - a) Y W three w)) (says (star_of s N) X v.box u (spliced a X Y) h)
 
         -- they were there already
         pub star_stood : true ≡ same_box (take ((a + 3) - a) (drop a Y)) (take ((a + 3) - a) (drop a X)) → Told (star_of s N) X (put_mid a ((a + 3) - a) X W) Stood

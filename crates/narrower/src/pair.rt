@@ -27,15 +27,14 @@ impl<A: Narrower, B: Narrower> Pair<A, B> {
     }
 }
 
-/// What two answers in a row come to, where the first is not none.
+/// What two answers in a row come to: none if either is, stood if both stood.
 fn joined(one: Answer, two: Answer) -> Answer
     ensures { result ≡ joined_of one two }
 {
     match (one, two) {
-        (Answer::Stood, _) => two,
-        (Answer::Empty, _) => Answer::Empty,
-        (Answer::Narrowed, Answer::Empty) => Answer::Empty,
-        (Answer::Narrowed, _) => Answer::Narrowed,
+        (Answer::Empty, _) | (_, Answer::Empty) => Answer::Empty,
+        (Answer::Stood, Answer::Stood) => Answer::Stood,
+        _ => Answer::Narrowed,
     }
 }
 
@@ -51,17 +50,15 @@ impl<A: Narrower, B: Narrower> Narrower for Pair<A, B> {
     }
 
     fn narrow(&mut self, spans: &mut [Span]) -> Result<Answer, NarrowFault> {
-        let size = self.size();
-        check_run(size, spans)?;
+        check_run(self.size(), spans)?;
         let mut copy = copy_of(spans);
-        let n = spans.len();
-        let part = &mut copy[0..n];
+        let part = &mut copy[..spans.len()];
         let one = self.first.narrow(part)?;
-        if let Answer::Empty = one {
+        if one == Answer::Empty {
             return Ok(Answer::Empty);
         }
         let two = self.second.narrow(part)?;
-        if let Answer::Empty = two {
+        if two == Answer::Empty {
             return Ok(Answer::Empty);
         }
         spans.copy_from_slice(part);

@@ -53,13 +53,11 @@ fn turns<N: Narrower>(below: &mut N, part: &mut [Span], most: usize) -> Option<u
     ensures turned { Turned most (N.means below.old) part.old result part.new }
 {
     for i in 0..most {
-        let Ok(answer) = below.narrow(part) else {
-            unreachable()
-        };
-        match answer {
-            Answer::Empty => return None,
-            Answer::Stood => return Some(i),
-            Answer::Narrowed => {}
+        match below.narrow(part) {
+            Ok(Answer::Empty) => return None,
+            Ok(Answer::Stood) => return Some(i),
+            Ok(Answer::Narrowed) => {}
+            Err(_) => unreachable(),
         }
     }
     Some(most)
@@ -81,23 +79,19 @@ impl<N: Narrower> Narrower for Rounds<N> {
         ensures told { ToldBy self.old.rounds (N.means self.old.below) spans.old result spans.new self.new.told }
     {
         self.told = 0;
-        let size = self.below.size();
-        check_run(size, spans)?;
+        check_run(self.below.size(), spans)?;
         let mut copy = copy_of(spans);
-        let n = spans.len();
+        let part = &mut copy[..spans.len()];
         let most = self.rounds.min(MOST_ROUNDS);
-        let part = &mut copy[0..n];
-        match turns(&mut self.below, part, most) {
-            None => Ok(Answer::Empty),
-            Some(told) => {
-                spans.copy_from_slice(part);
-                self.told = told;
-                if told == 0 {
-                    Ok(Answer::Stood)
-                } else {
-                    Ok(Answer::Narrowed)
-                }
-            }
+        let Some(told) = turns(&mut self.below, part, most) else {
+            return Ok(Answer::Empty);
+        };
+        spans.copy_from_slice(part);
+        self.told = told;
+        if told == 0 {
+            Ok(Answer::Stood)
+        } else {
+            Ok(Answer::Narrowed)
         }
     }
 }

@@ -53,18 +53,15 @@ impl<N: Narrower> Narrower for Star<N> {
     }
 
     fn narrow(&mut self, spans: &mut [Span]) -> Result<Answer, NarrowFault> {
-        let size = self.size();
-        check_run(size, spans)?;
+        check_run(self.size(), spans)?;
         let mut copy = copy_of(spans);
-        let n = spans.len();
-        let part = &mut copy[0..n];
+        let part = &mut copy[..spans.len()];
         let answer = self.below.narrow(part)?;
-        if let Answer::Empty = answer {
+        if answer == Answer::Empty {
             return Ok(Answer::Empty);
         }
         let from = 3 * self.star - 3;
-        let same = write(&mut spans[from..from + 3], &part[from..from + 3]);
-        if same {
+        if write(&mut spans[from..from + 3], &part[from..from + 3]) {
             Ok(Answer::Stood)
         } else {
             Ok(Answer::Narrowed)
