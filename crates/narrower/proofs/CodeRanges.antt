@@ -1,9 +1,22 @@
--- The ranges that the code computes, once it is known that 64 bits hold their ends.
-use Rattle.std.proofs.Common.{◌≡◌, ℕ, ◌+◌, ◌*◌, ◌<◌, ◌≤◌, sym, ap, ◌∙◌, ap₂, arith}
-use Rattle.numbers.specs.Ranges.{Range, Spans, held_range, plus, times, square, sum_r}
-use Rattle.numbers.proofs.Held.{held_range-small, plus-within, sum_r_more}
-use Rattle.model.specs.Limits.{most_coordinates}
-use Rattle.narrower.specs.RowTerms.{few_size}
+-- What the code computes of a row on a box, once it is known that 64 bits hold the ends of its ranges.
+use Rattle.std.proofs.Common.{◌≡◌, ℕ, List, ◌+◌, ◌≤◌, ap, ◌∙◌, ap₂}
+use Rattle.numbers.specs.Ranges.{Range, Spans, held_range, plus, times, square}
+use Rattle.numbers.proofs.Held.{held_range-small, plus-within}
+use Rattle.model.specs.declared.span.Span.{Span}
+use Rattle.model.specs.declared.held.HeldRow.{HeldRow}
+use Rattle.model.specs.Boxes.{IsBox}
+use Rattle.model.specs.Drafts.{drafted}
+use Rattle.model.proofs.RowLimits.{within_of_fits}
+use Rattle.narrower.specs.declared.on_box.RowOnBox.{RowOnBox}
+use Rattle.narrower.specs.Cuts.{Ready, its_row, its_box}
+
+-- a held row keeps its limits
+pub ready_held : (h : HeldRow) (X : List Span) → IsBox h.draft.size X → Ready (drafted h.draft) X
+ready_held h X b = record { limits = within_of_fits (drafted h.draft) h.fits; box = b }
+
+-- so does the row of a row on a box
+pub ready_on : (b : RowOnBox) → Ready (its_row b) (its_box b)
+ready_on b = ready_held b.row.now (its_box b) b.boxed
 
 -- a held range is the range itself, where its ends are small
 pub unheld : (p x y : Range) (s : ℕ) → p ≡ held_range x → x ≡ y → Spans y s → s ≤ 9223372036854775807 → p ≡ y
@@ -25,13 +38,3 @@ sum_is p a b u v s e f g h k = unheld p (plus a b) (plus u v) s e (ap₂ plus f 
 pub three_is : (p q a b c u v w : Range) (m n s : ℕ) → p ≡ held_range (plus a q) → q ≡ held_range (plus b c) → a ≡ u → b ≡ v → c ≡ w
     → Spans v m → Spans w n → m + n ≤ 9223372036854775807 → Spans (plus u (plus v w)) s → s ≤ 9223372036854775807 → p ≡ plus u (plus v w)
 three_is p q a b c u v w m n s e f g h i j k l o t = sum_is p a q u (plus v w) s e g (sum_is q b c v w (m + n) f h i (plus-within v w m n j k) l) o t
-
--- one more of at most nine ranges is added
-pub sum_step : (p a b : Range) (i n : ℕ) (f : ℕ → Range) (s : ℕ) → p ≡ held_range (plus a b) → a ≡ sum_r i f → b ≡ f i
-    → i < n → n ≤ most_coordinates → ((j : ℕ) → j < n → Spans (f j) s) → most_coordinates * s ≤ 9223372036854775807 → p ≡ sum_r (i + 1) f
-sum_step p a b i n f s e g h l few each k =
-    unheld p (plus a b) (sum_r (i + 1) f) (most_coordinates * s) e (ap₂ plus g h ∙ sym (sum_r_more i f)) (few_size (i + 1) s f (omega arith) (λ j m. each j (omega arith))) k
-
--- all of them are added
-pub sum_all : (a : Range) (i n : ℕ) (f : ℕ → Range) → a ≡ sum_r i f → i ≤ n → n ≤ i → a ≡ sum_r n f
-sum_all a i n f e h k = let q : i ≡ n = omega arith in e ∙ ap (λ m. sum_r m f) q

@@ -6,22 +6,15 @@ use Rattle.numbers.specs.Ranges.{Range, Spans, held_range, plus, minus, without,
 use Rattle.numbers.proofs.Held.{same_ends, held_range-small, minus-within, off_zero_is, over-within}
 use Rattle.numbers.proofs.Magnitudes.{abs_least}
 use Rattle.model.specs.declared.span.Span.{Span}
-use Rattle.model.specs.declared.held.HeldRow.{HeldRow}
-use Rattle.model.specs.Boxes.{IsBox, span, at, OrBox}
-use Rattle.model.specs.Drafts.{drafted}
-use Rattle.model.proofs.RowLimits.{within_of_fits}
+use Rattle.model.specs.Boxes.{span, at, OrBox}
 use Rattle.model.specs.Rows.{Row, EndWithin}
 use Rattle.narrower.specs.Maps.{meet_at, then}
-use Rattle.narrower.specs.OneRow.{total, factor_of, rest_of, absent_end, low_or_limit, high_or_limit, side_of, misses, narrow_at, up_to, one_row}
+use Rattle.narrower.specs.OneRow.{total, factor_of, rest_of, absent_end, low_or_limit, high_or_limit, side_of, narrow_at, up_to}
 use Rattle.narrower.specs.Cuts.{Ready, with_of, quotient_at}
 use Rattle.narrower.specs.RowTerms.{sum_size, rest_size_lem, total_size, factor_straight, total_split, rest_same}
 use Rattle.narrower.specs.Meetings.{lo, hi, met}
 use Rattle.narrower.specs.RowLaws.{left, narrowed, narrow_good}
 use Rattle.narrower.proofs.CodeRanges.{unheld}
-
--- a held row and a box of its size are ready
-pub ready_boxed : (h : HeldRow) (X : List Span) → IsBox h.draft.size X → Ready (drafted h.draft) X
-ready_boxed h X b = record { limits = within_of_fits (drafted h.draft) h.fits; box = b }
 
 -- ---- the terms without a coordinate
 
@@ -167,13 +160,3 @@ up_to_past r X k (suc d) e = ap (λ m. up_to r m X) (suc-add d k) ∙ ap (λ p. 
 -- after none comes none
 pub up_to_none : (r : Row) (X : List Span) (k n : ℕ) → k ≤ n → up_to r k X ≡ None → up_to r n X ≡ None
 up_to_none r X k n h e = let f : (n - k) + k ≡ n = omega arith in subst (λ m. up_to r m X ≡ None) f (up_to_past r X k (n - k) e)
-
--- ---- all coordinates
-
--- where the row's sum does not miss the right side, all coordinates are cut in turn
-pub one_row_all : (r : Row) (X : List Span) (t : Range) → t ≡ total r X → false ≡ misses r t → one_row r X ≡ up_to r r.size X
-one_row_all r X t e f = by (misses r (total r X)) (ap (misses r) (sym e) ∙ sym f)
-  where
-    by : (m : Bool) → m ≡ false → elim m [ true ↦ None | false ↦ up_to r r.size X ] ≡ up_to r r.size X
-    by true g = cc
-    by false g = refl

@@ -5,6 +5,7 @@
 pub mod answer;
 pub mod faults;
 pub mod interface;
+mod on_box;
 pub mod one_row;
 pub mod pair;
 pub mod rounds;

@@ -1,9 +1,11 @@
 //! The narrower of one row.
 
 ghost use Rattle.std.specs.Prelude.{◌≡◌, ◌<◌};
+ghost use Rattle.model.specs.Boxes.{IsBox};
 ghost use Rattle.model.specs.Drafts.{drafted};
-ghost use Rattle.narrower.specs.OneRow.{misses, side_of, rest_of, total, row_narrowing};
-ghost use Rattle.narrower.specs.Cuts.{one_row_meaning, Ready, quotient_at, CutAt, CutAll};
+ghost use Rattle.narrower.specs.OneRow.{misses, side_of, rest_of, total, up_to, row_narrowing};
+ghost use Rattle.narrower.specs.Answers.{CutTo};
+ghost use Rattle.narrower.specs.Cuts.{one_row_meaning, its_row, its_box, quotient_at, CutAt};
 ghost use Rattle.narrower.specs.Examples.{ExamplesHold};
 ghost use Rattle.model.proofs.RowLimits.{within_of_fits};
 ghost use Rattle.narrower.specs.RowLaws.{one_row-lawful};
@@ -11,7 +13,7 @@ ghost use Rattle.narrower.specs.RowLaws.{one_row-lawful};
 use crate::answer::Answer;
 use crate::faults::NarrowFault;
 use crate::interface::{Cutter, Narrower, narrow_by_cuts};
-use crate::sums::{row_factor, row_rest, row_total, terms_with};
+use crate::on_box::RowOnBox;
 use model::draft::RowDraft;
 use model::held::HeldRow;
 use model::span::Span;
@@ -40,15 +42,7 @@ impl OneRow {
 fn is_missed(row: &RowDraft, sum: Range) -> bool
     ensures { result ≡ misses (drafted row.now) sum }
 {
-    let low_met = match row.low {
-        None => true,
-        Some(low) => low <= sum.1,
-    };
-    let high_met = match row.high {
-        None => true,
-        Some(high) => sum.0 <= high,
-    };
-    !(low_met & high_met)
+    row.low.is_some_and(|low| sum.1 < low) || row.high.is_some_and(|high| high < sum.0)
 }
 
 /// The right side, where an absent end counts as one beyond every sum.
@@ -63,49 +57,45 @@ fn side(row: &RowDraft) -> Range
 
 /// What x_i is met with, where `rest` is the range of the terms without it: the right side less those terms, over what multiplies x_i.
 /// None where the latter may be 0.
-fn row_quotient(row: &RowDraft, spans: &[Span], i: usize, rest: Range) -> Option<Range>
-    requires ready { Ready (drafted row.now) spans.now }
-    requires i_within { i < row.now.size }
-    requires rest { rest ≡ rest_of (drafted row.now) spans.now i }
-    ensures { result ≡ quotient_at (drafted row.now) spans.now i }
+fn row_quotient(on: &RowOnBox, i: usize, rest: Range) -> Option<Range>
+    requires i_within { i < on.now.row.now.draft.size }
+    requires rest { rest ≡ rest_of (its_row on.now) (its_box on.now) i }
+    ensures { result ≡ quotient_at (its_row on.now) (its_box on.now) i }
 {
-    let left = difference_range(side(row), rest);
-    quotient_range(left, row_factor(row, spans, i))
+    let left = difference_range(side(&on.row.draft), rest);
+    quotient_range(left, on.factor(i))
 }
 
 /// Cuts coordinate `i` to what the row leaves of it, where `sum` is the range of the row's sum over the box. Gives that range over the
 /// box that is left, or none where nothing is left of the coordinate.
-fn narrow_at(row: &RowDraft, spans: &mut [Span], i: usize, sum: Range) -> Option<Range>
-    requires ready { Ready (drafted row.now) spans.old }
-    requires i_within { i < row.now.size }
-    requires total { sum ≡ total (drafted row.now) spans.old }
-    ensures { CutAt (drafted row.now) i spans.old result spans.new }
+fn narrow_at(row: &HeldRow, spans: &mut [Span], i: usize, sum: Range) -> Option<Range>
+    requires boxed { IsBox row.now.draft.size spans.old }
+    requires i_within { i < row.now.draft.size }
+    requires total { sum ≡ total (drafted row.now.draft) spans.old }
+    ensures { CutAt (drafted row.now.draft) i spans.old result spans.new }
 {
-    let rest = row_rest(row, spans, i, sum);
-    let Some(quotient) = row_quotient(row, spans, i, rest) else {
+    let before = RowOnBox { row, spans };
+    let rest = before.rest(i, sum);
+    let Some(quotient) = row_quotient(&before, i, rest) else {
         return Some(sum);
     };
-    let Some((low, high)) = meeting(spans[i].ends(), quotient) else {
-        return None;
-    };
+    let (low, high) = meeting(spans[i].ends(), quotient)?;
     spans[i] = Span::new(low, high);
-    Some(sum_range(rest, terms_with(row, spans, i)))
+    let after = RowOnBox { row, spans };
+    Some(sum_range(rest, after.terms_with(i)))
 }
 
-/// Cuts each coordinate in turn, with the spans as narrowed so far; false where nothing is left of one.
-fn narrow_all(row: &RowDraft, spans: &mut [Span], whole: Range) -> bool
-    requires ready { Ready (drafted row.now) spans.old }
-    requires total { whole ≡ total (drafted row.now) spans.old }
-    ensures { CutAll (drafted row.now) spans.old result spans.new }
+/// Cuts each coordinate in turn, with the spans as narrowed so far; none where nothing is left of one.
+fn narrow_all(row: &HeldRow, spans: &mut [Span], whole: Range) -> Option<()>
+    requires boxed { IsBox row.now.draft.size spans.old }
+    requires total { whole ≡ total (drafted row.now.draft) spans.old }
+    ensures { CutTo (up_to (drafted row.now.draft) row.now.draft.size spans.old) result spans.new }
 {
     let mut sum = whole;
-    for i in 0..row.size {
-        match narrow_at(row, spans, i, sum) {
-            Some(next) => sum = next,
-            None => return false,
-        }
+    for i in 0..row.draft.size {
+        sum = narrow_at(row, spans, i, sum)?;
     }
-    true
+    Some(())
 }
 
 impl Cutter for OneRow {
@@ -118,13 +108,12 @@ impl Cutter for OneRow {
     }
 
     fn cut(&self, spans: &mut [Span]) -> Option<()> {
-        let row = &self.row.draft;
-        let sum = row_total(row, spans);
-        if is_missed(row, sum) || !narrow_all(row, spans, sum) {
-            None
-        } else {
-            Some(())
+        let row = &self.row;
+        let sum = RowOnBox { row, spans }.total();
+        if is_missed(&row.draft, sum) {
+            return None;
         }
+        narrow_all(row, spans, sum)
     }
 }
 

@@ -1,6 +1,0 @@
--- The row's sum less the terms with the coordinate.
-use Rattle.narrower.proofs.CutSteps.{rest_is}
-use Rattle.narrower.proofs.sums.row_rest.Goals as goal
-
-pub returns : goal.returns
-returns c = rest_is c.requires.ready c.args.i c.requires.i_within _ _ _ c.remaining_range.ensures c.requires.total c.terms_with.ensures

@@ -1,8 +1,0 @@
--- The coefficient times the coordinate.
-use Rattle.std.proofs.Common.{arith}
-use Rattle.narrower.specs.RowTerms.{single_size, single_term-size}
-use Rattle.narrower.proofs.CodeRanges.{product_is}
-use Rattle.narrower.proofs.terms.single_term.Goals as goal
-
-pub returns : goal.returns
-returns c = product_is _ _ _ _ _ single_size c.product_range.ensures.value c.ends.ensures c.ends-2.ensures (single_term-size c.requires.ready c.args.i c.requires.i_within) (omega arith)
