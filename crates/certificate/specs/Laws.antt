@@ -11,7 +11,7 @@ use Rattle.model.specs.Sums.{sums_fit}
 use Rattle.narrower.specs.Narrowings.{Lawful}
 use Rattle.weighing.specs.Refusals.{weigh_refusal}
 use Rattle.factoring.specs.Factoring.{Factors, factored}
-use Rattle.factoring.specs.Orders.{order_place}
+use Rattle.factoring.specs.Orders.{entries_refusal}
 use Rattle.factoring.specs.Stored.{entries_below}
 use Rattle.factoring.specs.Sizes.{whole_limit}
 use Rattle.factoring.specs.Dominance.{Dominant}
@@ -23,7 +23,7 @@ use Rattle.certificate.specs.Checks.{sums_of, check_refusal}
 -- itself; an order of all coordinates is one of these
 abbrev pub DominantWeightsPass : Type 0
 DominantWeightsPass = (n : ℕ) (ws : List ℤ) (ds : List RowDraft) (is : List ℕ) → size_fits n ≡ true → length ds ≤ most_rows → bad_row n ds ≡ None
-    → weigh_refusal ws ds ≡ None → Dominant (sums_of n ws ds) → order_place n is ≡ None → check_refusal n ws ds is ≡ None
+    → weigh_refusal ws ds ≡ None → Dominant (sums_of n ws ds) → entries_refusal n is ≡ None → check_refusal n ws ds is ≡ None
 
 -- the certificate of every row of sums within their limits, in every order of its coordinates, keeps the laws of a narrower
 abbrev pub CertificatesAreLawful : Type 0

@@ -1,6 +1,7 @@
 -- The narrowers of a placement's own rows and checks keep the laws and speak only for what follows from its rows.
 use Rattle.std.proofs.Common.{◌≡◌, ℕ, zero, suc, ◌-◌, ◌<◌, Bool, true, false, cond, ◌&&◌, ltb, leb, List, [], ◌∷◌, map, length, get_or, ℤ, pos, negsuc, Some, None, Ok, Err, Option, Result, refl, subst, arith}
 use Rattle.std.specs.List.{AllByRecursion}
+use Rattle.std.specs.Option.{option_or}
 use Rattle.std.proofs.ByRecursion.{All-append}
 use Rattle.std.proofs.lemmas.Bool.{and_parts, ltb-true, leb-true}
 use Rattle.model.specs.declared.span.Span.{Span}
@@ -17,8 +18,8 @@ use Rattle.weighing.specs.Weights.{weighted_rows}
 use Rattle.weighing.specs.Refusals.{or_else, weigh_refusal}
 use Rattle.weighing.proofs.SumsFit.{sums_fit_lem}
 use Rattle.weighing.proofs.Aggregates.{aggregated_row_follows}
-use Rattle.factoring.specs.Orders.{order_place, order_at, order_refusal, from_zero}
-use Rattle.factoring.proofs.OrderTests.{ordered_of_place, from_zero-below}
+use Rattle.factoring.specs.Orders.{entries_refusal, order_refusal, from_zero}
+use Rattle.factoring.proofs.OrderTests.{ordered_of_unrefused, from_zero-below}
 use Rattle.certificate.specs.Checks.{sums_of, check_refusal, written}
 use Rattle.certificate.specs.CertificateLaws.{certificates_are_lawful}
 use Rattle.placement.specs.Reads.{row_at}
@@ -57,9 +58,9 @@ neither None p h = (refl, h)
 neither (Some a) p h = (cc, cc)
 
 -- nor is that of the order
-order_passed : (o : Option ℕ) (p : Option ProposalFault) → order_at o p ≡ None → o ≡ None
+order_passed : (o p : Option ProposalFault) → option_or o p ≡ None → o ≡ None
 order_passed None p h = refl
-order_passed (Some k) p h = cc
+order_passed (Some e) p h = cc
 
 -- ---- own narrowers
 
@@ -82,8 +83,8 @@ module _ (n : ℕ) (X : List Span) (ds : List RowDraft) (ok : Makeable n X ds) w
   of_check : (ws : List ℤ) (is : List ℕ) → check_refusal n ws ds is ≡ None → Lawful (written n ws ds is).means × Follows (sums_of n ws ds) (map drafted ds)
   of_check ws is e =
       let p = neither (weigh_refusal ws ds) (order_refusal (sums_of n ws ds) is) e in
-      let place = order_passed (order_place n is) _ p.1 in (
-        certificates_are_lawful (sums_of n ws ds) (from_zero is) (sums_fit_lem n ws ds (new_size n X ds ok) (new_few n X ds ok) (new_rows n X ds ok) p.0) (from_zero-below n is (ordered_of_place n is place)),
+      let order = order_passed (entries_refusal n is) _ p.1 in (
+        certificates_are_lawful (sums_of n ws ds) (from_zero is) (sums_fit_lem n ws ds (new_size n X ds ok) (new_few n X ds ok) (new_rows n X ds ok) p.0) (from_zero-below n is (ordered_of_unrefused n is order)),
         λ x m. aggregated_row_follows n ws ds (new_rows n X ds ok) p.0 x (met-weighted x ws (map drafted ds) m),
       )
 

@@ -8,7 +8,7 @@ use Rattle.model.specs.Drafts.{drafted}
 use Rattle.model.specs.Points.{Point, InBox, MeetsAll, Follows}
 use Rattle.narrower.specs.Narrowings.{Narrowing}
 use Rattle.weighing.specs.Refusals.{weigh_refusal}
-use Rattle.factoring.specs.Orders.{order_place}
+use Rattle.factoring.specs.Orders.{entries_refusal}
 use Rattle.factoring.specs.Dominance.{Dominant}
 use Rattle.certificate.specs.Certificates.{Told}
 use Rattle.certificate.specs.Checks.{sums_of, check_refusal, written, after_check}
@@ -125,13 +125,13 @@ pub record WholeOrder (n : ℕ) (is : List ℕ) : Type 0 where
 
 -- it is not refused by itself
 abbrev pub WholeOrdersAreOrders : Type 0
-WholeOrdersAreOrders = (n : ℕ) (X : List Span) (ds : List RowDraft) → Makeable n X ds → (is : List ℕ) → WholeOrder n is → order_place n is ≡ None
+WholeOrdersAreOrders = (n : ℕ) (X : List Span) (ds : List RowDraft) → Makeable n X ds → (is : List ℕ) → WholeOrder n is → entries_refusal n is ≡ None
 
 -- weights that are not refused and whose sums are dominant are accepted, at every time of a run, in every order that is not refused by
 -- itself, and the certificate of the definitions is written
 abbrev pub DominantWeightsAreAccepted : Type 0
 DominantWeightsAreAccepted = (n : ℕ) (X : List Span) (ds : List RowDraft) → Makeable n X ds → (cs : List Act) (ws : List ℤ) (is : List ℕ)
-    → weigh_refusal ws ds ≡ None → Dominant (sums_of n ws ds) → order_place n is ≡ None
+    → weigh_refusal ws ds ≡ None → Dominant (sums_of n ws ds) → entries_refusal n is ≡ None
     → (check_answer ws is (ends (newly n X ds) cs) ≡ Ok tt) × ((t : Told) → check_told ws is (ends (newly n X ds) cs) t ≡ written n ws ds is)
 
 -- own narrowers are piles, and speak only for what follows from the placement's rows
