@@ -2,6 +2,7 @@
 use Rattle.std.proofs.Common.{◌≡◌, ℕ, zero, suc, ◌+◌, ◌≤◌, Bool, true, false, cond, not, ◌&&◌, ltb, List, [], ◌∷◌, map, length, get_or, take, Some, None, Option, sym, refl, ap, ◌∙◌, add-one, arith}
 use Rattle.std.specs.List.{list_all, range_with_len, position_or_len, position_from}
 use Rattle.std.specs.Option.{option_map}
+use Rattle.std.proofs.lemmas.List.{take_all}
 use Rattle.std.proofs.lemmas.List.Folds.{list_all_more, list_all-append, list_all-map}
 use Rattle.std.proofs.lemmas.Iterator.Adapters.{position_from-zero}
 use Rattle.std.proofs.lemmas.List.FromFn.{map-range_with_len_more}
@@ -14,6 +15,15 @@ pub all_of_first : {A : Type 0} (p : A → Bool) (d : A) (xs : List A) (n : ℕ)
 all_of_first p d xs zero l = refl
 all_of_first p d xs (suc n) l =
     ap (λ m. list_all p (take m xs)) (sym (add-one n)) ∙ list_all_more p xs n d (omega arith) ∙ ap (λ b. b && p (get_or xs n d)) (all_of_first p d xs n (omega arith))
+
+-- of all elements
+pub all_of_them : {A : Type 0} (p : A → Bool) (d : A) (xs : List A) → list_all p xs ≡ every (length xs) (λ i. p (get_or xs i d))
+all_of_them p d xs = ap (list_all p) (sym (take_all (length xs) xs (omega arith))) ∙ all_of_first p d xs (length xs) (omega arith)
+
+-- all of the first n elements, looked at in a list of their own
+pub all_in_front : {A : Type 0} (p : A → Bool) (d : A) (xs : List A) (n : ℕ) → n ≤ length xs
+    → every (length (take n xs)) (λ i. p (get_or (take n xs) i d)) ≡ every n (λ i. p (get_or xs i d))
+all_in_front p d xs n l = sym (all_of_them p d (take n xs)) ∙ all_of_first p d xs n l
 
 and_true : (b : Bool) → (b && true) ≡ b
 and_true true = refl

@@ -1,8 +1,9 @@
 //! What is asked of rows.
 
-ghost use Rattle.std.specs.Prelude.{◌≡◌, ◌<◌, ◌≤◌};
-ghost use Rattle.model.specs.Boxes.{ends};
-ghost use Rattle.model.specs.Rows.{pair_of, row_fits, squares_fit, column_fits, pairs_fit, singles_fit, end_fits, ends_ordered, side_fits};
+ghost use Rattle.std.specs.Prelude.{◌≡◌, ◌<◌, ◌≤◌, length};
+ghost use Rattle.model.specs.Boxes.{ends, at, within};
+ghost use Rattle.model.specs.Firsts.{every};
+ghost use Rattle.model.specs.Rows.{pair_of, row_fits, column_fits, pairs_fit, end_fits, ends_ordered, side_fits};
 ghost use Rattle.model.specs.Drafts.{drafted, blank, row_of, bad_row};
 ghost use Rattle.model.specs.Laws.{FittingRowKeepsLimits};
 
@@ -41,20 +42,21 @@ impl RowDraft {
         ensures value { result ≡ row_fits (drafted self.now) }
         ensures law { FittingRowKeepsLimits }
     {
-        if self.size == 0 || self.size > MOST_COORDINATES {
+        let n = self.size;
+        if n == 0 || n > MOST_COORDINATES {
             return false;
         }
-        squares_fit(self) && pairs_fit(self) && singles_fit(self) && side_fits(self)
+        let squares = all_within(&self.squares[..n], SQUARE_LIMIT);
+        let singles = all_within(&self.singles[..n], SINGLE_LIMIT);
+        squares && pairs_fit(self) && singles && side_fits(self)
     }
 }
 
-fn squares_fit(row: &RowDraft) -> bool
-    requires { row.now.size ≤ 9 }
-    ensures { result ≡ squares_fit (drafted row.now) }
+/// Whether each of the spans is within the limit.
+fn all_within(spans: &[Span], limit: u32) -> bool
+    ensures { result ≡ every (length spans.now) (λ i. within limit (at spans.now i)) }
 {
-    row.squares[..row.size]
-        .iter()
-        .all(|s| s.is_within(SQUARE_LIMIT))
+    spans.iter().all(|s| s.is_within(limit))
 }
 
 fn column_fits(row: &RowDraft, j: usize) -> bool
@@ -69,15 +71,6 @@ fn pairs_fit(row: &RowDraft) -> bool
     ensures { result ≡ pairs_fit (drafted row.now) }
 {
     (0..row.size).all(|j| column_fits(row, j))
-}
-
-fn singles_fit(row: &RowDraft) -> bool
-    requires { row.now.size ≤ 9 }
-    ensures { result ≡ singles_fit (drafted row.now) }
-{
-    row.singles[..row.size]
-        .iter()
-        .all(|s| s.is_within(SINGLE_LIMIT))
 }
 
 fn end_fits(end: Option<i64>) -> bool
