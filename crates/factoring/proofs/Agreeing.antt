@@ -31,9 +31,6 @@ ready n k f i a b c s p q = record { few = a; inside = b; sized = sized_later s 
 pub positive_true : (z : ℤ) → pos 0 <ℤ z → lt_z (pos 0) z ≡ true
 positive_true z h = grind (arith, ints)
 
-pub positive_false : (z : ℤ) → z ≤ℤ pos 0 → lt_z (pos 0) z ≡ false
-positive_false z h = grind (arith, ints)
-
 -- ---- what is told of a step after k others, both counted from 1
 
 abbrev fault_of : ℕ → ℕ → Bool → Bool → Bool → Option FactorFault
@@ -41,12 +38,6 @@ fault_of k i a b c = elim a [ false ↦ Some (NoPivot k (suc i)) | true ↦ cond
 
 told : (fault : ℕ → ℕ → FactorFault) (k i : ℕ) → Some (fault (suc k) (suc i)) ≡ Some (fault (k + 1) (i + 1))
 told fault k i = ap₂ (λ (x y : ℕ). Some (fault x y)) (sym (add-one k)) (sym (add-one i))
-
-pub no_pivot : (n k : ℕ) (f : Form) (i : ℕ) → lt_z (pos 0) (f.h i i) ≡ false → step_fault n (suc k) f i ≡ Some (NoPivot (k + 1) (i + 1))
-no_pivot n k f i e = ap (λ (x : Bool). fault_of (suc k) i x (steep n f i) (large n (next_form f i))) e ∙ told NoPivot k i
-
-pub too_steep : (n k : ℕ) (f : Form) (i : ℕ) → lt_z (pos 0) (f.h i i) ≡ true → steep n f i ≡ true → step_fault n (suc k) f i ≡ Some (Steep (k + 1) (i + 1))
-too_steep n k f i e g = ap₂ (λ (x y : Bool). fault_of (suc k) i x y (large n (next_form f i))) e g ∙ told Steep k i
 
 pub too_large : (n k : ℕ) (f : Form) (i : ℕ) → lt_z (pos 0) (f.h i i) ≡ true → steep n f i ≡ false → large n (next_form f i) ≡ true → step_fault n (suc k) f i ≡ Some (Large (k + 1) (i + 1))
 too_large n k f i e g h =

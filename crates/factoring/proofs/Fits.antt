@@ -63,5 +63,5 @@ pub within_back : (z w : ℤ) (b : ℕ) → z ≡ w → abs w ≤ℤ pos b → b
 within_back z w b e h k = rw (handed z w e (le_trans h (omega (arith, ints)))) h
 
 -- a result that is returned
-pub result_is : (z w : ℤ) → mag z < 9223372036854775808 → z ≡ w → back z ≡ w
-result_is z w m e = let f : SFits w64 z = record { sfits = m } in simp to_z-of_z e
+pub returned : (z : ℤ) → mag z < 9223372036854775808 → back z ≡ z
+returned z m = let f : SFits w64 z = record { sfits = m } in simp to_z-of_z

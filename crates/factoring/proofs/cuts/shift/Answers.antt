@@ -3,7 +3,7 @@ use Rattle.std.proofs.Common.{◌≡◌, pos, ◌*ℤ◌, refl, arith, lit≤}
 use borrow.Author.Differences.{ints}
 use Rattle.numbers.proofs.Order.{le_trans}
 use Rattle.numbers.proofs.Magnitudes.{abs-over, scaled_within}
-use Rattle.factoring.proofs.Fits.{back, within_back, result_is}
+use Rattle.factoring.proofs.Fits.{back, within_back, returned}
 use Rattle.factoring.proofs.cuts.shift.Goals as goal
 
 pub overflow_mul-single : goal.overflow_mul-single
@@ -21,6 +21,6 @@ returns c =
     let o = abs-over c.args.single in
     let x : back (pos 16 *ℤ back c.args.single) ≡ pos 16 *ℤ c.args.single = omega (arith, ints) in
     let p : back c.args.pivot.value ≡ c.args.pivot.value = omega (arith, ints) in
-    let r = result_is c.rounded.result c.rounded.result c.rounded.type_inv refl in
-    let l = result_is c.limited.result c.limited.result c.limited.type_inv refl in
+    let r = returned c.rounded.result c.rounded.type_inv in
+    let l = returned c.limited.result c.limited.type_inv in
     cc

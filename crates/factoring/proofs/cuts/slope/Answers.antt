@@ -3,7 +3,7 @@ use Rattle.std.proofs.Common.{◌≡◌, pos, ◌*ℤ◌, refl, arith, lit≤}
 use borrow.Author.Differences.{ints}
 use Rattle.numbers.proofs.Order.{le_trans}
 use Rattle.numbers.proofs.Magnitudes.{abs-over, scaled_within}
-use Rattle.factoring.proofs.Fits.{back, within_back, result_is}
+use Rattle.factoring.proofs.Fits.{back, within_back, returned}
 use Rattle.factoring.proofs.cuts.slope.Goals as goal
 
 pub overflow_mul-entry : goal.overflow_mul-entry
@@ -21,5 +21,5 @@ returns c =
     let o = abs-over c.args.entry in
     let x : back (pos 65536 *ℤ back c.args.entry) ≡ pos 65536 *ℤ c.args.entry = omega (arith, ints) in
     let p : back c.args.pivot.value ≡ c.args.pivot.value = omega (arith, ints) in
-    let r = result_is c.rounded.result c.rounded.result c.rounded.type_inv refl in
+    let r = returned c.rounded.result c.rounded.type_inv in
     cc

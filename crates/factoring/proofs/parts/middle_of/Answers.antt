@@ -4,7 +4,7 @@ use borrow.Author.Differences.{ints}
 use Rattle.numbers.specs.Division.{down}
 use Rattle.numbers.proofs.Magnitudes.{abs-over}
 use Rattle.factoring.specs.Forms.{middle}
-use Rattle.factoring.proofs.Fits.{back, result_is}
+use Rattle.factoring.proofs.Fits.{back, returned}
 use Rattle.factoring.proofs.parts.middle_of.Goals as goal
 
 pub overflow_add-s : goal.overflow_add-s
@@ -17,4 +17,4 @@ returns c =
     let o = abs-over a in
     let p = abs-over b in
     let e : back (back a +ℤ back b) ≡ a +ℤ b = omega (arith, ints) in
-    result_is c.down_by.result (middle c.args.s) c.down_by.type_inv (c.down_by.ensures ∙ ap (λ (z : ℤ). down z (pos 2)) e)
+    returned c.down_by.result c.down_by.type_inv ∙ (c.down_by.ensures ∙ ap (λ (z : ℤ). down z (pos 2)) e)

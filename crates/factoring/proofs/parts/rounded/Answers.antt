@@ -1,9 +1,9 @@
 -- Twice the number and the divisor fit.
-use Rattle.std.proofs.Common.{pos, ◌+ℤ◌, ◌*ℤ◌, arith}
+use Rattle.std.proofs.Common.{pos, ◌+ℤ◌, ◌*ℤ◌, ◌∙◌, arith}
 use borrow.Author.Differences.{ints}
 use Rattle.numbers.specs.Division.{down}
 use Rattle.numbers.proofs.Magnitudes.{abs-over}
-use Rattle.factoring.proofs.Fits.{back, by_two, result_is}
+use Rattle.factoring.proofs.Fits.{back, by_two, returned}
 use Rattle.factoring.proofs.parts.rounded.Goals as goal
 
 pub overflow_mul-a : goal.overflow_mul-a
@@ -18,5 +18,5 @@ returns c =
     let a = c.args.a in
     let p = c.args.by.value in
     let z = c.args.by.above in
-    result_is c.down_by.result (down (pos 2 *ℤ a +ℤ p) (pos 2 *ℤ p)) c.down_by.type_inv
-    (by_two down (back (back (pos 2 *ℤ back a) +ℤ back p)) (pos 2 *ℤ a +ℤ p) (back (pos 2 *ℤ back p)) (pos 2 *ℤ p) c.down_by.ensures (omega (arith, ints)) (omega (arith, ints)))
+    returned c.down_by.result c.down_by.type_inv
+    ∙ (by_two down (back (back (pos 2 *ℤ back a) +ℤ back p)) (pos 2 *ℤ a +ℤ p) (back (pos 2 *ℤ back p)) (pos 2 *ℤ p) c.down_by.ensures (omega (arith, ints)) (omega (arith, ints)))

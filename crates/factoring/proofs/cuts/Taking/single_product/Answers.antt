@@ -1,6 +1,6 @@
 -- The parts are the form's, and within what a product asks.
 use Rattle.std.proofs.Common.{refl, rules}
-use Rattle.factoring.proofs.Fits.{result_is}
+use Rattle.factoring.proofs.Fits.{returned}
 use Rattle.factoring.proofs.StepBounds.{pivot_back, slope_back, shift_back, pivot_fits, slope_fits, shift_fits}
 use Rattle.factoring.proofs.cuts.Taking.single_product.Goals as goal
 
@@ -15,5 +15,5 @@ returns c =
     let p = pivot_back t in
     let a = shift_back t in
     let b = slope_back t c.args.j c.requires in
-    let r = result_is c.product.result c.product.result c.product.type_inv refl in
+    let r = returned c.product.result c.product.type_inv in
     record { value = cc; small = search rules }

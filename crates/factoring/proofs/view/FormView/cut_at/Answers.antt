@@ -1,6 +1,6 @@
 -- The parts are those of the form.
 use Rattle.std.proofs.Common.{pos, refl, rules}
-use Rattle.factoring.proofs.Fits.{result_is}
+use Rattle.factoring.proofs.Fits.{returned}
 use Rattle.factoring.proofs.StepBounds.{row_back, single_back, divisor_fits, single_fits}
 use Rattle.factoring.proofs.view.FormView.cut_at.Goals as goal
 
@@ -12,7 +12,7 @@ returns c =
     let r = c.requires.ready in
     let p = row_back r c.args.i r.inside in
     let e = single_back r in
-    let s = result_is c.shift.result c.shift.result c.shift.type_inv refl in
+    let s = returned c.shift.result c.shift.type_inv in
     record {
       axis = refl;
       cuts = record {

@@ -2,7 +2,7 @@
 use Rattle.std.proofs.Common.{◌≡◌, pos, ◌*ℤ◌, ◌∙◌, refl}
 use Rattle.numbers.specs.Division.{nearest}
 use Rattle.factoring.specs.Stored.{form_at}
-use Rattle.factoring.proofs.Fits.{back, result_is}
+use Rattle.factoring.proofs.Fits.{back, returned}
 use Rattle.factoring.proofs.Choices.{not_cond}
 use Rattle.factoring.proofs.StepBounds.{row_back, row_fits, divisor_fits}
 use Rattle.factoring.proofs.view.FormView.slope_at.Goals as goal
@@ -17,6 +17,6 @@ returns c =
     let r = c.requires.ready in
     let p = row_back r i r.inside in
     let e = row_back r c.args.j c.requires.inside in
-    let s = result_is c.slope.result c.slope.result c.slope.type_inv refl in
+    let s = returned c.slope.result c.slope.type_inv in
     let z : back c.slope.result ≡ nearest (pos 65536 *ℤ f.h i c.args.j) (f.h i i) = cc in
     z ∙ not_cond i c.args.j (pos 0) (nearest (pos 65536 *ℤ f.h i c.args.j) (f.h i i)) c.if-i-j.false
