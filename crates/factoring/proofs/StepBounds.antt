@@ -5,11 +5,12 @@ use Rattle.numbers.proofs.Order.{le_trans}
 use Rattle.numbers.specs.Magnitudes.{abs}
 use Rattle.numbers.proofs.Magnitudes.{abs-over}
 use Rattle.numbers.specs.Division.{nearest}
-use Rattle.factoring.specs.declared.cuts.Taking.{Taking}
+use Rattle.factoring.specs.declared.taking.Taking.{Taking}
 use Rattle.factoring.specs.Forms.{Form}
 use Rattle.factoring.specs.Steps.{slope_of, shift_of}
-use Rattle.factoring.specs.Stored.{number_at, form_at}
+use Rattle.factoring.specs.Stored.{number_at}
 use Rattle.factoring.specs.Cuts.{Ready}
+use Rattle.factoring.specs.Taken.{form_taken}
 use Rattle.factoring.proofs.StepTests.{thick, flat, slope_within, clamped-within}
 use Rattle.factoring.proofs.Fits.{back, back_is, handed}
 
@@ -46,13 +47,13 @@ module _ {n : ℕ} {f : Form} {i : ℕ} (r : Ready n f i) where
 -- the parts of a cut, and the numbers of its form, as the code passes them
 module _ (t : Taking) where
   abbrev f : Form
-  f = form_at t.form.now
+  f = form_taken t
 
   abbrev i : ℕ
   i = t.cut.axis
 
-  slope_small : (j : ℕ) → j < t.size → abs (slope_of f i j) ≤ℤ pos 65536
-  slope_small j l = slope_within f i (pivot_positive t.ready) j (flat t.size f i t.ready.positive t.ready.flat j l)
+  slope_small : (j : ℕ) → j < t.view.size → abs (slope_of f i j) ≤ℤ pos 65536
+  slope_small j l = slope_within f i (pivot_positive t.ready) j (flat t.view.size f i t.ready.positive t.ready.flat j l)
 
   shift_small : abs (shift_of f i) ≤ℤ pos 65536
   shift_small = clamped-within (nearest (pos 16 *ℤ f.g i) (f.h i i))
@@ -60,7 +61,7 @@ module _ (t : Taking) where
   pub pivot_back : back t.cut.pivot ≡ f.h i i
   pivot_back = handed t.cut.pivot (f.h i i) t.cuts.pivot (le_trans (pivot_small t.ready) (omega (arith, ints)))
 
-  pub slope_back : (j : ℕ) → j < t.size → back (number_at t.cut.slopes j) ≡ slope_of f i j
+  pub slope_back : (j : ℕ) → j < t.view.size → back (number_at t.cut.slopes j) ≡ slope_of f i j
   slope_back j l = handed (number_at t.cut.slopes j) (slope_of f i j) (t.cuts.slope j l) (le_trans (slope_small j l) (omega (arith, ints)))
 
   pub shift_back : back t.cut.shift ≡ shift_of f i
@@ -70,21 +71,21 @@ module _ (t : Taking) where
   pub pivot_fits : abs (back t.cut.pivot) ≤ℤ pos 1073741824
   pivot_fits = rw pivot_back (pivot_small t.ready)
 
-  pub slope_fits : (j : ℕ) → j < t.size → abs (back (number_at t.cut.slopes j)) ≤ℤ pos 65536
+  pub slope_fits : (j : ℕ) → j < t.view.size → abs (back (number_at t.cut.slopes j)) ≤ℤ pos 65536
   slope_fits j l = rw (slope_back j l) (slope_small j l)
 
   pub shift_fits : abs (back t.cut.shift) ≤ℤ pos 65536
   shift_fits = rw shift_back shift_small
 
   -- what a quotient is taken off
-  pub entry_back : (j k : ℕ) → j < t.size → k < t.size → back (f.h j k) ≡ f.h j k
+  pub entry_back : (j k : ℕ) → j < t.view.size → k < t.view.size → back (f.h j k) ≡ f.h j k
   entry_back j k l m = back_is (f.h j k) (le_trans (t.ready.sized.entries j k l m) (omega (arith, ints)))
 
-  pub linear_back : (j : ℕ) → j < t.size → back (f.g j) ≡ f.g j
+  pub linear_back : (j : ℕ) → j < t.view.size → back (f.g j) ≡ f.g j
   linear_back j l = back_is (f.g j) (le_trans (t.ready.sized.singles j l) (omega (arith, ints)))
 
-  pub entry_fits_lem : (j k : ℕ) → j < t.size → k < t.size → abs (back (f.h j k)) ≤ℤ pos 2305843009213693952
+  pub entry_fits_lem : (j k : ℕ) → j < t.view.size → k < t.view.size → abs (back (f.h j k)) ≤ℤ pos 2305843009213693952
   entry_fits_lem j k l m = rw (entry_back j k l m) (le_trans (t.ready.sized.entries j k l m) (omega (arith, ints)))
 
-  pub linear_fits : (j : ℕ) → j < t.size → abs (back (f.g j)) ≤ℤ pos 2305843009213693952
+  pub linear_fits : (j : ℕ) → j < t.view.size → abs (back (f.g j)) ≤ℤ pos 2305843009213693952
   linear_fits j l = rw (linear_back j l) (le_trans (t.ready.sized.singles j l) (omega (arith, ints)))

@@ -8,3 +8,4 @@ pub mod Dominance
 pub mod Stored
 pub mod Made
 pub mod Cuts
+pub mod Taken

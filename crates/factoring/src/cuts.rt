@@ -3,12 +3,14 @@
 ghost use Rattle.std.specs.Prelude.{◌≡◌, ◌<◌, pos, ◌*ℤ◌, ◌≤ℤ◌};
 ghost use Rattle.numbers.specs.Division.{nearest};
 ghost use Rattle.numbers.specs.Magnitudes.{abs};
-ghost use Rattle.factoring.specs.Steps.{clamped, slope_of, shift_of};
+ghost use Rattle.factoring.specs.Steps.{clamped, slope_of};
 ghost use Rattle.factoring.specs.Stored.{form_at};
 ghost use Rattle.factoring.specs.Cuts.{Ready, Cuts};
+ghost use Rattle.factoring.specs.Taken.{step_taken};
 
 use crate::parts::{limited, product, rounded};
-use crate::tables::{FormTable, table};
+use crate::tables::table;
+use crate::taking::Taking;
 use crate::view::FormView;
 use numbers::positive::Positive;
 
@@ -19,16 +21,6 @@ pub(crate) struct Cut {
     pub(crate) pivot: i64,
     pub(crate) slopes: [i64; 9],
     pub(crate) shift: i64,
-}
-
-/// A step that is being taken: the form, whose row at the cut's axis passed the first two tests, and the cut.
-#[derive(Clone, Copy)]
-pub(crate) struct Taking<'a> {
-    pub(crate) form: &'a FormTable,
-    pub(crate) size: usize,
-    pub(crate) cut: Cut,
-    ghost ready: { Ready size (form_at form.now) cut.axis },
-    ghost cuts: { Cuts size (form_at form.now) cut },
 }
 
 /// 65,536 times `entry / pivot`, to the nearest.
@@ -81,9 +73,9 @@ impl FormView<'_> {
 impl Taking<'_> {
     /// The pivot times two slopes.
     pub(crate) fn pair_product(&self, j: usize, k: usize) -> i64
-        requires first { j < self.now.size }
-        requires second { k < self.now.size }
-        ensures value { result ≡ (form_at self.now.form.now).h self.now.cut.axis self.now.cut.axis *ℤ slope_of (form_at self.now.form.now) self.now.cut.axis j *ℤ slope_of (form_at self.now.form.now) self.now.cut.axis k }
+        requires first { j < self.now.view.size }
+        requires second { k < self.now.view.size }
+        ensures value { result ≡ (step_taken self.now).pivot *ℤ (step_taken self.now).slope j *ℤ (step_taken self.now).slope k }
         ensures small { abs result ≤ℤ pos 4611686018427387904 }
     {
         product(self.cut.pivot, self.cut.slopes[j], self.cut.slopes[k])
@@ -91,8 +83,8 @@ impl Taking<'_> {
 
     /// The pivot times the shift and a slope.
     pub(crate) fn single_product(&self, j: usize) -> i64
-        requires { j < self.now.size }
-        ensures value { result ≡ (form_at self.now.form.now).h self.now.cut.axis self.now.cut.axis *ℤ shift_of (form_at self.now.form.now) self.now.cut.axis *ℤ slope_of (form_at self.now.form.now) self.now.cut.axis j }
+        requires { j < self.now.view.size }
+        ensures value { result ≡ (step_taken self.now).pivot *ℤ (step_taken self.now).shift *ℤ (step_taken self.now).slope j }
         ensures small { abs result ≤ℤ pos 4611686018427387904 }
     {
         product(self.cut.pivot, self.cut.shift, self.cut.slopes[j])

@@ -12,5 +12,6 @@ pub(crate) mod refusals;
 pub(crate) mod start;
 pub(crate) mod steps;
 pub mod tables;
+pub(crate) mod taking;
 pub(crate) mod terms;
 pub(crate) mod view;

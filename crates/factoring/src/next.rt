@@ -1,46 +1,46 @@
 //! The form that a step leaves.
 
 ghost use Rattle.std.specs.Prelude.{◌≡◌, ◌<◌};
-ghost use Rattle.factoring.specs.Steps.{next_form};
 ghost use Rattle.factoring.specs.Stored.{form_at};
 ghost use Rattle.factoring.specs.Cuts.{Agree};
+ghost use Rattle.factoring.specs.Taken.{form_left};
 
-use crate::cuts::Taking;
 use crate::parts::lowered;
 use crate::tables::{FormTable, grid, table};
+use crate::taking::Taking;
 use numbers::positive::Positive;
 
 impl Taking<'_> {
     fn next_entry(&self, j: usize, k: usize) -> i64
-        requires first { j < self.now.size }
-        requires second { k < self.now.size }
-        ensures { result ≡ (next_form (form_at self.now.form.now) self.now.cut.axis).h j k }
+        requires first { j < self.now.view.size }
+        requires second { k < self.now.view.size }
+        ensures { result ≡ (form_left self.now).h j k }
     {
         if self.cut.axis == j || self.cut.axis == k {
             return 0;
         }
         let by = Positive { value: 4294967296 };
-        lowered(self.form.entries[j][k], self.pair_product(j, k), by)
+        lowered(self.view.form.entries[j][k], self.pair_product(j, k), by)
     }
 
     fn next_single(&self, j: usize) -> i64
-        requires { j < self.now.size }
-        ensures { result ≡ (next_form (form_at self.now.form.now) self.now.cut.axis).g j }
+        requires { j < self.now.view.size }
+        ensures { result ≡ (form_left self.now).g j }
     {
         if self.cut.axis == j {
             return 0;
         }
         let by = Positive { value: 1048576 };
-        lowered(self.form.singles[j], self.single_product(j), by)
+        lowered(self.view.form.singles[j], self.single_product(j), by)
     }
 
     /// What the step leaves: nothing at its coordinate, and the rest less the square's other terms, rounded up.
     pub(crate) fn next_form(&self) -> FormTable
-        ensures { Agree self.now.size (form_at result) (next_form (form_at self.now.form.now) self.now.cut.axis) }
+        ensures { Agree self.now.view.size (form_at result) (form_left self.now) }
     {
         FormTable {
-            entries: grid(self.size, 0, |j, k| self.next_entry(j, k)),
-            singles: table(self.size, 0, |j| self.next_single(j)),
+            entries: grid(self.view.size, 0, |j, k| self.next_entry(j, k)),
+            singles: table(self.view.size, 0, |j| self.next_single(j)),
         }
     }
 }

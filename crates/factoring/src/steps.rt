@@ -2,19 +2,19 @@
 
 ghost use Rattle.std.specs.Prelude.{◌≡◌, ◌<◌, true};
 ghost use Rattle.factoring.specs.Sizes.{SizedForm};
-ghost use Rattle.factoring.specs.Steps.{step_of};
 ghost use Rattle.factoring.specs.Stored.{form_at, step_at, same_step};
 ghost use Rattle.factoring.specs.Cuts.{StepAnswer};
+ghost use Rattle.factoring.specs.Taken.{step_taken};
 
-use crate::cuts::Taking;
 use crate::tables::{FormTable, StepTable};
+use crate::taking::Taking;
 use crate::view::FormView;
 use narrower::faults::FactorFault;
 
 impl Taking<'_> {
     /// The cut, with what its roundings leave over.
     fn step(&self) -> StepTable
-        ensures { same_step self.now.size (step_at result) (step_of (form_at self.now.form.now) self.now.cut.axis) ≡ true }
+        ensures { same_step self.now.view.size (step_at result) (step_taken self.now) ≡ true }
     {
         StepTable {
             axis: self.cut.axis,
@@ -44,8 +44,7 @@ impl FormView<'_> {
             return Err(FactorFault::Steep(k + 1, i + 1));
         }
         let taking = Taking {
-            form: self.form,
-            size: self.size,
+            view: *self,
             cut: self.cut_at(i),
         };
         let after = taking.next_form();

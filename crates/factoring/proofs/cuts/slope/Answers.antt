@@ -1,5 +1,5 @@
 -- The product fits.
-use Rattle.std.proofs.Common.{◌≡◌, pos, ◌*ℤ◌, refl, arith, lit≤}
+use Rattle.std.proofs.Common.{◌≡◌, pos, ◌*ℤ◌, arith, lit≤}
 use borrow.Author.Differences.{ints}
 use Rattle.numbers.proofs.Order.{le_trans}
 use Rattle.numbers.proofs.Magnitudes.{abs-over, scaled_within}

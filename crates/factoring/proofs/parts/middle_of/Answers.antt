@@ -3,7 +3,6 @@ use Rattle.std.proofs.Common.{◌≡◌, ℤ, pos, ◌+ℤ◌, ap, ◌∙◌, ar
 use borrow.Author.Differences.{ints}
 use Rattle.numbers.specs.Division.{down}
 use Rattle.numbers.proofs.Magnitudes.{abs-over}
-use Rattle.factoring.specs.Forms.{middle}
 use Rattle.factoring.proofs.Fits.{back, returned}
 use Rattle.factoring.proofs.parts.middle_of.Goals as goal
 

@@ -1,5 +1,5 @@
 -- The numbers are within what a slope asks.
-use Rattle.std.proofs.Common.{◌≡◌, pos, ◌*ℤ◌, ◌∙◌, refl}
+use Rattle.std.proofs.Common.{◌≡◌, pos, ◌*ℤ◌, ◌∙◌}
 use Rattle.numbers.specs.Division.{nearest}
 use Rattle.factoring.specs.Stored.{form_at}
 use Rattle.factoring.proofs.Fits.{back, returned}

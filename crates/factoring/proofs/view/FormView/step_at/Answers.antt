@@ -25,15 +25,15 @@ positive c =
 level : (c : Else-is_steep) → steep c.args.self.now.size (form_at c.args.self.now.form.now) c.args.i ≡ false
 level c = sym c.is_steep.ensures ∙ c.if-is_steep.false
 
-readied : (c : Else-is_steep) → Ready c.args.self.now.size (form_at c.args.self.now.form.now) c.args.i
-readied c = ready c.args.self.now.size c.args.k (form_at c.args.self.now.form.now) c.args.i c.args.self.now.few c.requires.inside c.requires.early c.requires.sized (positive (goal.at.cut_at-requires c).Else-self-i-le0) (level c)
+readied : (c : Else-is_steep) → lt_z (pos 0) ((form_at c.args.self.now.form.now).h c.args.i c.args.i) ≡ true → Ready c.args.self.now.size (form_at c.args.self.now.form.now) c.args.i
+readied c p = ready c.args.self.now.size c.args.k (form_at c.args.self.now.form.now) c.args.i c.args.self.now.few c.requires.inside c.requires.early c.requires.sized p (level c)
 
 pub cut_at-requires : goal.cut_at-requires
-cut_at-requires c = record { ready = readied c }
+cut_at-requires c = record { ready = readied (goal.at.cut_at-requires c).Else-is_steep (positive (goal.at.cut_at-requires c).Else-self-i-le0) }
 
 pub invariant_of-taking : goal.invariant_of-taking
 invariant_of-taking c = record {
-  ready = subst (λ (x : ℕ). Ready c.args.self.now.size (form_at c.args.self.now.form.now) x) (sym c.cut_at.ensures.axis) (readied (goal.at.invariant_of-taking c).Else-is_steep);
+  ready = subst (λ (x : ℕ). Ready c.args.self.now.size (form_at c.args.self.now.form.now) x) (sym c.cut_at.ensures.axis) (readied (goal.at.invariant_of-taking c).Else-is_steep (positive (goal.at.invariant_of-taking c).Else-self-i-le0));
   cuts = c.cut_at.ensures.cuts;
 }
 

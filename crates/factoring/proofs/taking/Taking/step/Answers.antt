@@ -1,15 +1,14 @@
 -- The step is the definition's.
 use Rattle.std.proofs.Common.{refl, arith}
-use Rattle.factoring.specs.Steps.{step_of}
-use Rattle.factoring.specs.Stored.{form_at}
+use Rattle.factoring.specs.Taken.{step_taken}
 use Rattle.factoring.proofs.StepBounds.{pivot_back, shift_back}
 use Rattle.factoring.proofs.StoredTests.{decides_step}
-use Rattle.factoring.proofs.cuts.Taking.step.Goals as goal
+use Rattle.factoring.proofs.taking.Taking.step.Goals as goal
 
 pub returns : goal.returns
 returns c =
     let t = c.args.self.now in
-    (decides_step t.size _ (step_of (form_at t.form.now) t.cut.axis)).1 (record {
+    (decides_step t.view.size _ (step_taken t)).1 (record {
       axis = refl;
       pivot = pivot_back t;
       slope = t.cuts.slope;

@@ -2,7 +2,7 @@
 use Rattle.std.proofs.Common.{rules}
 use Rattle.factoring.proofs.StepBounds.{pivot_back, shift_back, linear_back, pivot_fits, shift_fits, linear_fits}
 use Rattle.factoring.proofs.Fits.{back_is}
-use Rattle.factoring.proofs.cuts.Taking.slack_of_single.Goals as goal
+use Rattle.factoring.proofs.taking.Taking.slack_of_single.Goals as goal
 
 pub scaled-product-requires : goal.scaled-product-requires
 scaled-product-requires c = let t = c.args.self.now in record { first = pivot_fits t; second = shift_fits t }

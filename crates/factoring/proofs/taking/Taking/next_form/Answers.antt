@@ -1,6 +1,6 @@
 -- Each entry and each single is the one of its place.
 use Rattle.std.proofs.Common.{pos, rules}
-use Rattle.factoring.proofs.cuts.Taking.next_form.Goals as goal
+use Rattle.factoring.proofs.taking.Taking.next_form.Goals as goal
 
 pub returns : goal.returns
 returns c = record {

@@ -1,6 +1,6 @@
 -- Each slack is the one of its place.
 use Rattle.std.proofs.Common.{pos, rules}
-use Rattle.factoring.proofs.cuts.Taking.slacks.Goals as goal
+use Rattle.factoring.proofs.taking.Taking.slacks.Goals as goal
 
 pub returns : goal.returns
 returns c j l = let a = c.table.ensures j (pos 0, pos 0) l in search rules

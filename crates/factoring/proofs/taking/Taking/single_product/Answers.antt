@@ -1,8 +1,8 @@
 -- The parts are the form's, and within what a product asks.
-use Rattle.std.proofs.Common.{refl, rules}
+use Rattle.std.proofs.Common.{rules}
 use Rattle.factoring.proofs.Fits.{returned}
 use Rattle.factoring.proofs.StepBounds.{pivot_back, slope_back, shift_back, pivot_fits, slope_fits, shift_fits}
-use Rattle.factoring.proofs.cuts.Taking.single_product.Goals as goal
+use Rattle.factoring.proofs.taking.Taking.single_product.Goals as goal
 
 pub product-requires : goal.product-requires
 product-requires c =
