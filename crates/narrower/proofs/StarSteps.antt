@@ -1,5 +1,5 @@
 -- Three spans taken over from another box, and what the answers of a narrower come to for one star.
-use Rattle.std.proofs.Common.{◌≡◌, ℕ, ◌+◌, ◌-◌, ◌*◌, ◌<◌, ◌≤◌, true, false, cond, List, ◌++◌, length, take, drop, Some, Err, sym, refl, ap, ◌∙◌, subst, arith, length-drop, length-take}
+use Rattle.std.proofs.Common.{◌≡◌, ℕ, ◌+◌, ◌-◌, ◌*◌, ◌<◌, ◌≤◌, Bool, true, false, cond, List, ◌++◌, length, take, drop, Some, Err, sym, refl, ap, ◌∙◌, subst, arith, length-drop, length-take}
 use borrow.Rule.Slice.PartMut.{put_mid}
 use Rattle.std.proofs.lemmas.List.{drop-drop, take_at, drop_at}
 use Rattle.std.proofs.lemmas.Bool.Decides.{nat_tests}
@@ -100,15 +100,25 @@ module _ (s : ℕ) {N : Narrowing} (law : Lawful N) {X P : List Span} (v : Copie
         star_told u h = subst (λ Z. Told (star_of s N) X Z u) (sym (put_spliced a X ((a + 3) - a) Y W three w)) (says (star_of s N) X v.box u (spliced a X Y) h)
 
         -- they were there already
-        pub star_stood : true ≡ same_box (take ((a + 3) - a) (drop a Y)) (take ((a + 3) - a) (drop a X)) → Told (star_of s N) X (put_mid a ((a + 3) - a) X W) Stood
+        star_stood : true ≡ same_box (take ((a + 3) - a) (drop a Y)) (take ((a + 3) - a) (drop a X)) → Told (star_of s N) X (put_mid a ((a + 3) - a) X W) Stood
         star_stood h =
             let p = same_box_yes _ _ (sym h) in
             let q = taken_same a X Y star_end (subst (λ n. take n (drop a Y) ≡ take n (drop a X)) three p) in
             star_told Stood (star_map ∙ ap Some q, q)
 
         -- they were others
-        pub star_narrowed : false ≡ same_box (take ((a + 3) - a) (drop a Y)) (take ((a + 3) - a) (drop a X)) → Told (star_of s N) X (put_mid a ((a + 3) - a) X W) Narrowed
+        star_narrowed : false ≡ same_box (take ((a + 3) - a) (drop a Y)) (take ((a + 3) - a) (drop a X)) → Told (star_of s N) X (put_mid a ((a + 3) - a) X W) Narrowed
         star_narrowed h =
             let n : false ≡ same_box (take 3 (drop a Y)) (take 3 (drop a X)) = h ∙ ap (λ n. same_box (take n (drop a Y)) (take n (drop a X))) three in
             let m = taken-middle a X Y star_end star_left in
             star_told Narrowed (star_map, λ q. same_box_no _ _ (sym n) (sym m ∙ ap (λ Z. take 3 (drop a Z)) q))
+
+        -- and the answer says which
+        pub star_written : {v : Answer} → v ≡ cond (same_box (take ((a + 3) - a) (drop a Y)) (take ((a + 3) - a) (drop a X))) Stood Narrowed
+            → Told (star_of s N) X (put_mid a ((a + 3) - a) X W) v
+        star_written {v} h = by (same_box (take ((a + 3) - a) (drop a Y)) (take ((a + 3) - a) (drop a X))) refl h
+          where
+            by : (t : Bool) → same_box (take ((a + 3) - a) (drop a Y)) (take ((a + 3) - a) (drop a X)) ≡ t → v ≡ cond t Stood Narrowed
+                → Told (star_of s N) X (put_mid a ((a + 3) - a) X W) v
+            by true e f = rw f (star_stood (sym e))
+            by false e f = rw f (star_narrowed (sym e))

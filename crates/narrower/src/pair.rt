@@ -50,6 +50,7 @@ impl<A: Narrower, B: Narrower> Narrower for Pair<A, B> {
     }
 
     fn narrow(&mut self, spans: &mut [Span]) -> Result<Answer, NarrowFault> {
+        // These three lines open each layer: a helper could not hand out a part of an array of its own.
         check_run(self.size(), spans)?;
         let mut copy = copy_of(spans);
         let part = &mut copy[..spans.len()];

@@ -1,6 +1,6 @@
 //! The layer that takes over the spans of one star alone.
 
-ghost use Rattle.std.specs.Prelude.{◌≡◌, length};
+ghost use Rattle.std.specs.Prelude.{◌≡◌, length, if◌then◌else◌};
 ghost use Rattle.model.specs.Boxes.{same_box};
 ghost use Rattle.narrower.specs.Layers.{star_of};
 ghost use Rattle.narrower.specs.LayerLaws.{star_lawful};
@@ -27,15 +27,19 @@ impl<N: Narrower> Star<N> {
     }
 }
 
-/// Writes the spans, and says whether they were there already.
-fn write(to: &mut [Span], from: &[Span]) -> bool
+/// Writes the spans, and says what that comes to: stood where they were there already.
+fn write(to: &mut [Span], from: &[Span]) -> Answer
     requires { length from.now ≡ length to.old }
-    ensures value { result ≡ same_box from.now to.old }
+    ensures value { result ≡ (if same_box from.now to.old then Answer.Stood else Answer.Narrowed) }
     ensures after { to.new ≡ from.now }
 {
     let same = same_spans(from, to);
     to.copy_from_slice(from);
-    same
+    if same {
+        Answer::Stood
+    } else {
+        Answer::Narrowed
+    }
 }
 
 impl<N: Narrower> Narrower for Star<N> {
@@ -61,10 +65,6 @@ impl<N: Narrower> Narrower for Star<N> {
             return Ok(Answer::Empty);
         }
         let from = 3 * self.star - 3;
-        if write(&mut spans[from..from + 3], &part[from..from + 3]) {
-            Ok(Answer::Stood)
-        } else {
-            Ok(Answer::Narrowed)
-        }
+        Ok(write(&mut spans[from..from + 3], &part[from..from + 3]))
     }
 }

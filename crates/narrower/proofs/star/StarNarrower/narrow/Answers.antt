@@ -1,10 +1,10 @@
 -- The run is checked, the narrower below narrows the copy, and the star's spans are written back.
-use Rattle.std.proofs.Common.{◌≡◌, length, take, Ok, sym, ◌∙◌, arith, rules}
+use Rattle.std.proofs.Common.{◌≡◌, length, take, Ok, arith, rules}
 use Rattle.narrower.specs.declared.answer.Answer.TheVariants.{Empty}
 use Rattle.narrower.specs.Answers.{checked}
 use Rattle.narrower.specs.Layers.{star_of}
 use Rattle.narrower.proofs.Answering.{Copied, copied}
-use Rattle.narrower.proofs.StarSteps.{star_few, star_within, star_never, star_none, star_left, star_stood, star_narrowed}
+use Rattle.narrower.proofs.StarSteps.{star_few, star_within, star_never, star_none, star_left, star_written}
 use Rattle.narrower.proofs.star.StarNarrower.narrow.Given as given
 use Rattle.narrower.proofs.star.StarNarrower.narrow.Goals as goal
 use Rattle.narrower.proofs.star.StarNarrower.narrow.Goals.{After-copy_of-copy}
@@ -37,18 +37,10 @@ slice_bounds-write-end-2 g c =
     let l = star_left c.args.self.now.star (g.met.N.Narrower.lawful c.args.self.now.below) u (c.in_ok-answer.ensures.answer, c.in_ok-answer.ensures.after) n in
     omega (arith, l, w.0, w.1)
 
-pub returns-then-write : goal.returns-then-write
-returns-then-write g c =
-    let u = begun g (goal.at.returns-then-write g c).After-copy_of-copy in
+pub returns : goal.returns
+returns g c =
+    let u = begun g (goal.at.returns g c).After-copy_of-copy in
     let n : c.in_ok-answer.answer ≡ Empty → ⊥ = search rules in
-    let t = star_stood c.args.self.now.star (g.met.N.Narrower.lawful c.args.self.now.below) u (c.in_ok-answer.ensures.answer, c.in_ok-answer.ensures.after) n
-    c.write.ensures.after (sym c.if-write.true ∙ c.write.ensures.value) in
-    record { answer = t.0; after = t.1; same = search rules }
-
-pub returns-else-write : goal.returns-else-write
-returns-else-write g c =
-    let u = begun g (goal.at.returns-else-write g c).After-copy_of-copy in
-    let n : c.in_ok-answer.answer ≡ Empty → ⊥ = search rules in
-    let t = star_narrowed c.args.self.now.star (g.met.N.Narrower.lawful c.args.self.now.below) u (c.in_ok-answer.ensures.answer, c.in_ok-answer.ensures.after) n
-    c.write.ensures.after (sym c.if-write.false ∙ c.write.ensures.value) in
+    let t = star_written c.args.self.now.star (g.met.N.Narrower.lawful c.args.self.now.below) u (c.in_ok-answer.ensures.answer, c.in_ok-answer.ensures.after) n
+    c.write.ensures.after c.write.ensures.value in
     record { answer = t.0; after = t.1; same = search rules }
