@@ -1,10 +1,11 @@
 -- A check of weights and then of an order: how the code's parts come to the definitions.
 use Rattle.std.proofs.Common.{◌≡◌, ℕ, ◌≤◌, min, List, length, ℤ, Some, None, Err, Option, Result, sym, ap, ◌∙◌, ap₂, arith}
+use Rattle.std.specs.Option.{option_or}
 use Rattle.model.specs.declared.draft.RowDraft.{RowDraft}
 use Rattle.model.specs.Limits.{most_rows}
 use Rattle.model.specs.Rows.{Row}
 use Rattle.narrower.specs.declared.faults.ProposalFault.{ProposalFault}
-use Rattle.weighing.specs.Refusals.{or_else, weigh_refusal}
+use Rattle.weighing.specs.Refusals.{weigh_refusal}
 use Rattle.weighing.specs.Marks.{marks_below, marks_of}
 use Rattle.weighing.proofs.Usable.{as_many}
 use Rattle.factoring.specs.declared.factored.Factored.{Factored}
@@ -16,11 +17,11 @@ use Rattle.certificate.specs.Checks.{sums_of, check_refusal, proposed, written, 
 module _ (n : ℕ) (ws : List ℤ) (ds : List RowDraft) (is : List ℕ) where
   -- the refusal of the weights is that of the check
   pub refused_weights : (e : ProposalFault) → Some e ≡ weigh_refusal ws ds → check_refusal n ws ds is ≡ Some e
-  refused_weights e h = ap (λ o. or_else o (order_refusal (sums_of n ws ds) is)) (sym h)
+  refused_weights e h = ap (λ o. option_or o (order_refusal (sums_of n ws ds) is)) (sym h)
 
   -- past the weights, what is said of the order in the sums r of the code is said by the check
   pub past_weights : (o : Option ProposalFault) (r : Row) → None ≡ weigh_refusal ws ds → r ≡ sums_of n ws ds → o ≡ order_refusal r is → check_refusal n ws ds is ≡ o
-  past_weights o r h s k = ap (λ x. or_else x (order_refusal (sums_of n ws ds) is)) (sym h) ∙ ap (λ (x : Row). order_refusal x is) (sym s) ∙ sym k
+  past_weights o r h s k = ap (λ x. option_or x (order_refusal (sums_of n ws ds) is)) (sym h) ∙ ap (λ (x : Row). order_refusal x is) (sym s) ∙ sym k
 
   -- a refusal that is handed on is that of the check
   pub handed_on : (a : Result (Unit {0}) ProposalFault) (y e : ProposalFault) → a ≡ Err y → y ≡ e → check_refusal n ws ds is ≡ Some e → a ≡ proposed (check_refusal n ws ds is)

@@ -1,11 +1,12 @@
 -- What a check of weights and an order refuses, and what it writes.
 use Rattle.std.specs.Prelude.{ℕ, List, map, ℤ, Some, None, Ok, Err, Option, Result}
+use Rattle.std.specs.Option.{option_or}
 use Rattle.model.specs.declared.draft.RowDraft.{RowDraft}
 use Rattle.model.specs.Rows.{Row}
 use Rattle.model.specs.Drafts.{drafted}
 use Rattle.narrower.specs.declared.faults.ProposalFault.{ProposalFault}
 use Rattle.weighing.specs.Weights.{aggregate}
-use Rattle.weighing.specs.Refusals.{or_else, weigh_refusal}
+use Rattle.weighing.specs.Refusals.{weigh_refusal}
 use Rattle.weighing.specs.Marks.{marks_of}
 use Rattle.factoring.specs.Orders.{order_refusal, from_zero}
 use Rattle.certificate.specs.Certificates.{Told, row_certificate}
@@ -16,7 +17,7 @@ sums_of n ws ds = aggregate n ws (map drafted ds)
 
 -- what a check refuses: of the weights, then of the order and the factoring of the sums
 abbrev pub check_refusal : ℕ → List ℤ → List RowDraft → List ℕ → Option ProposalFault
-check_refusal n ws ds is = or_else (weigh_refusal ws ds) (order_refusal (sums_of n ws ds) is)
+check_refusal n ws ds is = option_or (weigh_refusal ws ds) (order_refusal (sums_of n ws ds) is)
 
 -- a refusal, if there is one, as the result of a call that answers nothing else
 abbrev pub proposed : Option ProposalFault → Result (Unit {0}) ProposalFault

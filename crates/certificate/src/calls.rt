@@ -89,10 +89,7 @@ impl Cutter for Certificate {
     ghost few = { λ c. CertificateNarrowerLemmas.few c.factored };
 
     fn box_size(&self) -> usize {
-        match &self.factored {
-            None => 0,
-            Some(f) => f.sums.row.size,
-        }
+        self.factored.as_ref().map_or(0, |f| f.sums.row.size)
     }
 
     fn cut(&self, spans: &mut [Span]) -> Option<()> {

@@ -35,6 +35,7 @@ pub(crate) fn single_low(a: Range, x: Range) -> i64
 
 impl HeldBox<'_> {
     /// What squares with the coefficients `c` charge.
+    // A chain for each kind of term: one function over the kinds would take a closure and be no shorter.
     pub(crate) fn squares(self, c: &[Range; 9]) -> i64
         requires { (j : ℕ) → j < length self.spans.now → Spans (range_at c.now j) entry_limit }
         ensures { result ≡ squares_charge (length self.entry.spans.now) self.entry.spans.now (range_at c.now) }

@@ -63,8 +63,7 @@ fn narrow_by(step: &StepTable, spans: &mut [Span], budget: i64) -> Option<()>
     ensures { CutTo (narrow_by (length spans.old) budget (step_at step.now) spans.old) result spans.new }
 {
     let cut = Cut { step, spans }.range(budget);
-    let (low, high) = meeting(spans[step.axis].ends(), cut)?;
-    spans[step.axis] = Span::new(low, high);
+    spans[step.axis] = Span::from(meeting(spans[step.axis].ends(), cut)?);
     Some(())
 }
 

@@ -13,7 +13,8 @@ use model::sums::Sums;
 #[derive(Clone, Copy)]
 pub struct Factored {
     pub sums: Sums,
-    // Nine places and a count: no step of a narrowing allocates, and a certificate is copied whole.
+    // Nine places and a count: a certificate is copied whole and allocates nothing. The order stands beside the axes of the steps, since it is what
+    // the definition factors along, and the invariants say so of it.
     pub order: [usize; 9],
     pub count: usize,
     pub steps: [StepTable; 9],

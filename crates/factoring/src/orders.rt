@@ -31,6 +31,7 @@ pub(crate) fn check_order(n: usize, order: &[usize]) -> Result<(), ProposalFault
     if order.is_empty() || order.len() > n {
         return Err(ProposalFault::OrderLength);
     }
+    // A match: `map_or(Ok(()), ..)` would put what passes into the place of what is missing.
     match (0..order.len()).find(|k| !entry_fits(n, order, *k)) {
         Some(k) => Err(ProposalFault::Order(k + 1)),
         None => Ok(()),

@@ -25,7 +25,7 @@ pub(crate) fn rounded(a: i64, by: Positive) -> i64
 pub(crate) fn limited(z: i64) -> i64
     ensures { result ≡ clamped z }
 {
-    z.min(65536).max(-65536)
+    z.clamp(-65536, 65536)
 }
 
 /// A pivot times two slopes, or a shift and a slope.

@@ -5,6 +5,8 @@ ghost use Rattle.std.specs.Prelude.{ℕ, ◌<◌, ◌≤◌, [], slice_index_or}
 use numbers::ranges::Range;
 use std::array;
 
+// Tables of nine in fixed memory: a step of a narrowing allocates nothing.
+
 /// A form: its entries, both ways round, and its singles.
 #[derive(Clone, Copy)]
 pub struct FormTable {

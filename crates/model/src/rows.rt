@@ -16,11 +16,12 @@ impl RowDraft {
     pub fn new(size: usize) -> RowDraft
         ensures { result ≡ blank size }
     {
+        let zero = Span::default();
         RowDraft {
             size,
-            squares: [Span::default(); 9],
-            pairs: [[Span::default(); 9]; 9],
-            singles: [Span::default(); 9],
+            squares: [zero; 9],
+            pairs: [[zero; 9]; 9],
+            singles: [zero; 9],
             low: None,
             high: None,
         }
@@ -31,10 +32,8 @@ impl RowDraft {
         ensures { ends result ≡ pair_of (drafted self.now) i j }
     {
         let (first, second) = if i < j { (i, j) } else { (j, i) };
-        match self.pairs.get(first) {
-            None => Span::default(),
-            Some(line) => line.get(second).copied().unwrap_or_default(),
-        }
+        let span = self.pairs.get(first).and_then(|line| line.get(second));
+        span.copied().unwrap_or_default()
     }
 
     /// Whether the row keeps all its limits.
@@ -76,7 +75,7 @@ fn pairs_fit(row: &RowDraft) -> bool
 fn end_fits(end: Option<i64>) -> bool
     ensures { result ≡ end_fits end }
 {
-    end.is_none_or(|a| (-SIDE_LIMIT <= a) & (a <= SIDE_LIMIT))
+    end.is_none_or(|a| (-SIDE_LIMIT..=SIDE_LIMIT).contains(&a))
 }
 
 fn ends_ordered(low: Option<i64>, high: Option<i64>) -> bool
@@ -102,6 +101,7 @@ fn is_row_of(row: &RowDraft, size: usize) -> bool
 }
 
 /// The place, from 1, of the first row of another size, with crossed ends or beyond its limits.
+// A place or none, and no Result: which refusal it makes, and whether it does, is for the caller to say.
 pub fn first_bad_row(size: usize, rows: &[RowDraft]) -> Option<usize>
     ensures { result ≡ bad_row size rows.now }
 {

@@ -16,6 +16,7 @@ impl Span {
     }
 
     /// The ends as a range, the low one first.
+    // A method and no From: clauses name it, and `.ends()` reads better than a conversion to a pair.
     pub fn ends(self) -> (i64, i64)
         ensures { result ≡ ends self }
     {
@@ -31,7 +32,16 @@ impl Span {
     }
 }
 
+impl From<(i64, i64)> for Span {
+    ghost from_gives = { λ r s. s ≡ span r.0 r.1 };
+
+    fn from(ends: (i64, i64)) -> Span {
+        Span::new(ends.0, ends.1)
+    }
+}
+
 /// The place, from 1, of the first span that is crossed or beyond ±4,096.
+// A place or none, and no Result: which refusal it makes, and whether it does, is for the caller to say.
 pub fn first_bad_span(spans: &[Span]) -> Option<usize>
     ensures value { result ≡ bad_span spans.now }
     ensures law { BoxHasNoBadSpan }
@@ -51,6 +61,7 @@ pub fn copy_of(spans: &[Span]) -> [Span; 9]
 }
 
 /// Whether two runs hold the same spans.
+// `==` by another name: its clause says so by the definition that answers are told by.
 pub fn same_spans(a: &[Span], b: &[Span]) -> bool
     ensures { result ≡ same_box a.now b.now }
 {

@@ -5,8 +5,8 @@ ghost use Rattle.narrower.specs.Answers.{answer_number};
 
 use std::fmt;
 
-/// What a narrowing came to.
-#[derive(Clone, Copy, PartialEq, Eq, Debug)]
+/// What a narrowing came to, the least first: of two in a row the greater tells what both come to.
+#[derive(Clone, Copy, PartialEq, Eq, PartialOrd, Ord, Debug)]
 pub enum Answer {
     /// The map gives the same box.
     Stood,
@@ -18,6 +18,7 @@ pub enum Answer {
 
 impl Answer {
     /// 1, 2 or 3.
+    // A method and no From: the number is what is told of an answer, not the answer in another form.
     pub fn number(self) -> u16
         ensures { result ≡ answer_number self }
     {

@@ -136,6 +136,9 @@ impl From<ProposalFault> for PlacementFault {
     }
 }
 
+// Numbers, places and layers are methods, and no From: kinds share a number, so it tells of a refusal and is not one in another form. A trait
+// over the four enums would have no user, since each is known where it is told.
+
 impl NarrowFault {
     /// The refusal's number.
     pub fn number(self) -> u16
@@ -214,9 +217,9 @@ impl ProposalFault {
         ensures { result ≡ proposal_place self }
     {
         match self {
-            ProposalFault::Weights(place) => Place::Entry(place),
-            ProposalFault::AbsentEnd(place) => Place::Entry(place),
-            ProposalFault::Order(place) => Place::Entry(place),
+            ProposalFault::Weights(place)
+            | ProposalFault::AbsentEnd(place)
+            | ProposalFault::Order(place) => Place::Entry(place),
             ProposalFault::Factor(e) => e.place(),
             _ => Place::Entry(0),
         }
@@ -257,8 +260,7 @@ impl PlacementFault {
         ensures { result ≡ placement_place self }
     {
         match self {
-            PlacementFault::BadSpan(place) => Place::Entry(place),
-            PlacementFault::BadRow(place) => Place::Entry(place),
+            PlacementFault::BadSpan(place) | PlacementFault::BadRow(place) => Place::Entry(place),
             PlacementFault::Proposal(e) => e.place(),
             _ => Place::Entry(0),
         }

@@ -17,6 +17,7 @@ pub trait Narrower {
     ghost means: { Self → Narrowing };
 
     /// The size of the boxes that it takes; 0 where it takes none.
+    // 0 and no Option: no box has size 0, so the laws and the refusal by 14 need no second case.
     fn size(&self) -> usize
         ensures { result ≡ (means self.now).size };
 
@@ -36,6 +37,7 @@ pub fn check_run(size: usize, spans: &[Span]) -> Result<(), NarrowFault>
     if spans.len() == 0 || spans.len() != size {
         return Err(NarrowFault::Length);
     }
+    // A match: `map_or(Ok(()), ..)` would put what passes into the place of what is missing.
     match first_bad_span(spans) {
         None => Ok(()),
         Some(place) => Err(NarrowFault::BadSpan(place)),

@@ -79,8 +79,7 @@ fn narrow_at(row: &HeldRow, spans: &mut [Span], i: usize, sum: Range) -> Option<
     let Some(quotient) = row_quotient(&before, i, rest) else {
         return Some(sum);
     };
-    let (low, high) = meeting(spans[i].ends(), quotient)?;
-    spans[i] = Span::new(low, high);
+    spans[i] = Span::from(meeting(spans[i].ends(), quotient)?);
     let after = RowOnBox { row, spans };
     Some(sum_range(rest, after.terms_with(i)))
 }
@@ -92,6 +91,7 @@ fn narrow_all(row: &HeldRow, spans: &mut [Span], whole: Range) -> Option<()>
     ensures { CutTo (up_to (drafted row.now.draft) row.now.draft.size spans.old) result spans.new }
 {
     let mut sum = whole;
+    // By index: each coordinate is cut in the run that the one before has changed.
     for i in 0..row.draft.size {
         sum = narrow_at(row, spans, i, sum)?;
     }

@@ -31,11 +31,7 @@ impl<A: Narrower, B: Narrower> Pair<A, B> {
 fn joined(one: Answer, two: Answer) -> Answer
     ensures { result ≡ joined_of one two }
 {
-    match (one, two) {
-        (Answer::Empty, _) | (_, Answer::Empty) => Answer::Empty,
-        (Answer::Stood, Answer::Stood) => Answer::Stood,
-        _ => Answer::Narrowed,
-    }
+    one.max(two)
 }
 
 impl<A: Narrower, B: Narrower> Narrower for Pair<A, B> {
@@ -50,7 +46,7 @@ impl<A: Narrower, B: Narrower> Narrower for Pair<A, B> {
     }
 
     fn narrow(&mut self, spans: &mut [Span]) -> Result<Answer, NarrowFault> {
-        // These three lines open each layer: a helper could not hand out a part of an array of its own.
+        // These three lines open each layer. One function for all would take the rest as a closure over `self`, and be no plainer.
         check_run(self.size(), spans)?;
         let mut copy = copy_of(spans);
         let part = &mut copy[..spans.len()];

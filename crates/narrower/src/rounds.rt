@@ -52,6 +52,7 @@ fn turns<N: Narrower>(below: &mut N, part: &mut [Span], most: usize) -> Option<u
     ensures same { N.means below.new ≡ N.means below.old }
     ensures turned { Turned most (N.means below.old) part.old result part.new }
 {
+    // The index is the answer: how many rounds changed the box.
     for i in 0..most {
         match below.narrow(part) {
             Ok(Answer::Empty) => return None,

@@ -9,6 +9,7 @@ ghost use Rattle.numbers.specs.Laws.{SumIsEnclosed, DifferenceIsEnclosed, Produc
 use crate::rounding::{is_one_sided, quotient_down, quotient_up};
 
 /// A low end and a high end.
+// A pair and no struct: the definitions are over pairs of ends, so a range of the code is one of theirs as it stands.
 pub type Range = (i64, i64);
 
 /// The range of a sum of a number from `a` and one from `b`.
@@ -93,7 +94,7 @@ pub fn meeting(a: Range, b: Range) -> Option<Range>
 fn is_around_zero(a: Range) -> bool
     ensures { result ≡ holds_zero a }
 {
-    (a.0 <= 0) & (0 <= a.1)
+    (a.0..=a.1).contains(&0)
 }
 
 /// A quotient rounded down, and rounded up.
@@ -133,5 +134,5 @@ fn capped_product(a: i64, b: i64) -> i64
 fn is_short(a: i64) -> bool
     ensures { T result → abs a ≤ℤ pos 2147483648 }
 {
-    (-2147483648 <= a) & (a <= 2147483648)
+    (-2147483648..=2147483648).contains(&a)
 }

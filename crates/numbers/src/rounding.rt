@@ -43,12 +43,13 @@ pub fn up_by(a: i64, by: Positive) -> i64
 }
 
 /// `a / b` rounded down: one less than the quotient cut towards 0, if what is left lies on the other side of 0 than `b`.
+// No NonZero for the divisor: those who call have tested the ends of a range already, and would have to test each once more to make one.
 pub(crate) fn quotient_down(a: i64, b: i64) -> i64
     requires { b ≢ pos 0 }
     ensures { result ≡ held (down a b) }
 {
     if b == -1 {
-        return 0i64.saturating_sub(a);
+        return a.saturating_neg();
     }
     let quotient = a / b;
     let rest = a % b;
@@ -65,7 +66,7 @@ pub(crate) fn quotient_up(a: i64, b: i64) -> i64
     ensures { result ≡ held (up a b) }
 {
     if b == -1 {
-        return 0i64.saturating_sub(a);
+        return a.saturating_neg();
     }
     let quotient = a / b;
     let rest = a % b;

@@ -1,7 +1,6 @@
 -- The narrowers of a placement's own rows and checks keep the laws and speak only for what follows from its rows.
-use Rattle.std.proofs.Common.{◌≡◌, ℕ, zero, suc, ◌-◌, ◌<◌, Bool, true, false, cond, ◌&&◌, ltb, leb, List, [], ◌∷◌, map, length, get_or, ℤ, pos, negsuc, Some, None, Ok, Err, Option, Result, refl, subst, arith}
+use Rattle.std.proofs.Common.{◌≡◌, ℕ, zero, suc, ◌-◌, ◌<◌, Bool, true, false, cond, ◌&&◌, ltb, leb, List, [], ◌∷◌, map, length, get_or, ℤ, pos, negsuc, None, Ok, Err, Result, refl, subst, arith}
 use Rattle.std.specs.List.{AllByRecursion}
-use Rattle.std.specs.Option.{option_or}
 use Rattle.std.proofs.ByRecursion.{All-append}
 use Rattle.std.proofs.lemmas.Bool.{and_parts, ltb-true, leb-true}
 use Rattle.model.specs.declared.span.Span.{Span}
@@ -10,12 +9,12 @@ use Rattle.model.specs.Rows.{Row}
 use Rattle.model.specs.Drafts.{drafted, blank}
 use Rattle.model.specs.Points.{Point, Meets, MeetsAll, Follows}
 use Rattle.model.proofs.RowLimits.{row_at_lem, within_of_fits}
-use Rattle.narrower.specs.declared.faults.ProposalFault.{ProposalFault}
 use Rattle.narrower.specs.Narrowings.{Narrowing, Lawful}
 use Rattle.narrower.specs.OneRow.{row_narrowing}
 use Rattle.narrower.specs.RowLaws.{one_row-lawful}
 use Rattle.weighing.specs.Weights.{weighted_rows}
-use Rattle.weighing.specs.Refusals.{or_else, weigh_refusal}
+use Rattle.weighing.specs.Refusals.{weigh_refusal}
+use Rattle.weighing.proofs.Usable.{neither}
 use Rattle.weighing.proofs.SumsFit.{sums_fit_lem}
 use Rattle.weighing.proofs.Aggregates.{aggregated_row_follows}
 use Rattle.factoring.specs.Orders.{entries_refusal, order_refusal, from_zero}
@@ -50,18 +49,6 @@ met-weighted x (pos zero ∷ ws) (r ∷ rs) m = met-weighted x ws rs m.1
 met-weighted x (pos (suc w) ∷ ws) (r ∷ rs) m = (m.0, met-weighted x ws rs m.1)
 met-weighted x (negsuc w ∷ ws) (r ∷ rs) m = (m.0, met-weighted x ws rs m.1)
 
--- ---- checks
-
--- neither of two refusals is there
-neither : {A : Type 0} (o p : Option A) → or_else o p ≡ None → (o ≡ None) × (p ≡ None)
-neither None p h = (refl, h)
-neither (Some a) p h = (cc, cc)
-
--- nor is that of the order
-order_passed : (o p : Option ProposalFault) → option_or o p ≡ None → o ≡ None
-order_passed None p h = refl
-order_passed (Some e) p h = cc
-
 -- ---- own narrowers
 
 module _ (n : ℕ) (X : List Span) (ds : List RowDraft) (ok : Makeable n X ds) where
@@ -83,7 +70,7 @@ module _ (n : ℕ) (X : List Span) (ds : List RowDraft) (ok : Makeable n X ds) w
   of_check : (ws : List ℤ) (is : List ℕ) → check_refusal n ws ds is ≡ None → Lawful (written n ws ds is).means × Follows (sums_of n ws ds) (map drafted ds)
   of_check ws is e =
       let p = neither (weigh_refusal ws ds) (order_refusal (sums_of n ws ds) is) e in
-      let order = order_passed (entries_refusal n is) _ p.1 in (
+      let order = (neither (entries_refusal n is) _ p.1).0 in (
         certificates_are_lawful (sums_of n ws ds) (from_zero is) (sums_fit_lem n ws ds (new_size n X ds ok) (new_few n X ds ok) (new_rows n X ds ok) p.0) (from_zero-below n is (ordered_of_unrefused n is order)),
         λ x m. aggregated_row_follows n ws ds (new_rows n X ds ok) p.0 x (met-weighted x ws (map drafted ds) m),
       )

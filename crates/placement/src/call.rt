@@ -2,7 +2,8 @@
 
 use certificate::certificate::Certificate;
 
-/// One call of a run. It is an enum, since what a run promises is stated over the list of its calls, and a closure tells no clause what it stands for.
+/// One call of a run.
+// An enum and no closures: what a run promises is stated over the list of its calls, and a slice holds closures of one type alone.
 #[derive(Drop)]
 pub enum Call<'a, N> {
     /// Narrows by a narrower.

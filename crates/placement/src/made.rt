@@ -27,6 +27,7 @@ fn check_rows(size: usize, rows: &[RowDraft]) -> Result<(), PlacementFault>
     if rows.len() > MOST_ROWS {
         return Err(PlacementFault::TooManyRows);
     }
+    // A match: `map_or(Ok(()), ..)` would put what passes into the place of what is missing.
     match first_bad_row(size, rows) {
         None => Ok(()),
         Some(place) => Err(PlacementFault::BadRow(place)),

@@ -16,6 +16,7 @@ pub struct Placement {
 }
 
 /// The number of coordinates, the box (the first `size` spans), the rows, and whether a narrower found that no place fits.
+// Nine spans and a size: narrowing allocates nothing. A bool for the standing: of a Standing one variant would have to be ruled out.
 #[derive(Drop)]
 pub(crate) struct Made {
     pub(crate) at_none: bool,

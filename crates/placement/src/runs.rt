@@ -13,6 +13,7 @@ use narrower::interface::Narrower;
 
 impl Placement {
     /// Makes one call, and tells whether it was not refused.
+    // A bool: a run counts refusals, and what each was is the single call's to tell.
     fn make_call<N: Narrower>(&mut self, call: &mut Call<N>) -> bool
         ensures answer { result ≡ unrefused (act_of N.means call.old) (state_of self.old) }
         ensures after { state_of self.new ≡ after (act_of N.means call.old) (state_of self.old) }
@@ -42,6 +43,7 @@ impl Placement {
         ensures promises { EveryRunKeepsItsPromises }
         ensures witnesses { ThePromisesCanBeMet }
     {
+        // Counted in the loop: a chain's closure would change the placement, and what it changes its caller does not know.
         let mut refused: usize = 0;
         for call in calls.iter_mut() {
             if !self.make_call(call) {

@@ -4,7 +4,7 @@ use std::fmt;
 /// Whether a placement is made, and whether a place may still fit.
 #[derive(Clone, Copy, PartialEq, Eq, Debug)]
 pub enum Standing {
-    /// Not made yet.
+    /// Not made yet. No reading tells this, since it is refused; the states of the definitions have it.
     Unmade,
     /// Made, and no narrower found that no place fits.
     Open,

@@ -8,8 +8,8 @@ use model::spans::copy_of;
 use std::fmt;
 
 /// A copy of a box, as `box [-3,3] [1,5]`: its size and, in the first places, its spans.
-// Spans with a size beside them: a reply that borrowed the box would keep `obey` from saying how it leaves the session, and a Vec would make
-// reading a box need memory.
+// Spans with a size beside them: a reply that borrowed the box would keep `obey` from saying how it leaves the session, a Vec would make reading
+// a box need memory, and a reply is copied, which a vector in place is not.
 #[derive(Clone, Copy)]
 pub struct BoxText {
     size: usize,

@@ -208,7 +208,7 @@ fn parse_pair<'a>(words: &mut Words<'a>) -> Result<Description, Wrong<'a>> {
 }
 
 /// A number that counts from 1, as those of coordinates and rows do. None is below 1, so 0 stands for all of those.
-// No Option: what takes such a number refuses 0 by itself, with the words for a row or a star that is not there.
+// No Option: what takes such a number refuses 0 by itself, with the words for a coordinate, a row or a star that is not there.
 pub fn ordinal(given: i64) -> usize
     ensures { result ≡ ordinal_of given }
 {

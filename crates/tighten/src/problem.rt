@@ -46,6 +46,7 @@ impl Problem {
     }
 
     /// The size, or 0 where none is given.
+    // No Option: making refuses 0 and a missing size alike.
     pub fn size(&self) -> usize
         ensures { result ≡ size_of self.now }
     {
@@ -125,6 +126,7 @@ impl Problem {
         Ok(())
     }
 
+    // A function for each field, of three lines: one for all would take a closure that lends a place of a row.
     fn set_square<'a>(&mut self, i: i64, coefficient: Span) -> Result<(), Wrong<'a>>
         ensures { Taken result (taken (Description.Square i coefficient) self.old) self.old self.new }
     {

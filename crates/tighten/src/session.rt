@@ -146,7 +146,8 @@ impl Session {
         }
     }
 
-    /// Narrows by layers over a narrower. An enum says which, and not a `dyn`: each arm has a narrower of its own type, on the stack.
+    /// Narrows by layers over a narrower.
+    // A match and no `dyn`: layers are types over what is below, and a `dyn` doesn't stand for a narrower there but in a box, which needs memory.
     fn narrow_layered<N: Narrower + Drop>(
         &mut self,
         layers: Layers,
@@ -174,6 +175,7 @@ impl Session {
     }
 
     /// Narrows by rounds of a narrower, which tell how many they were.
+    // Not through `narrow_by`: the reply needs what the rounds tell after the call.
     fn narrow_rounds<N: Narrower + Drop>(
         &mut self,
         below: N,

@@ -3,6 +3,7 @@ use model::span::Span;
 use std::fmt;
 
 /// How the placement is left.
+// Three meanings, so neither an Option nor a Result.
 #[derive(Clone, Copy)]
 pub enum Outcome {
     /// No placement was made.
@@ -44,7 +45,7 @@ fn widths(spans: &[Span]) -> i64 {
     spans
         .iter()
         .map(width)
-        .fold(0, |sum: i64, width| sum.saturating_add(width))
+        .fold(0, i64::saturating_add)
 }
 
 /// How many calls there were, how many were refused, and how the placement is left.

@@ -1,5 +1,6 @@
 -- What rows that keep their limits and weights that are not refused have, row by row.
 use Rattle.std.proofs.Common.{◌≡◌, ℕ, zero, suc, ◌<◌, ◌≤◌, Bool, true, false, cond, eqb, List, [], ◌∷◌, map, length, get_or, ℤ, pos, ◌≤ℤ◌, Some, None, Option, refl, ap, ◌∙◌, ⊎_elim, arith}
+use Rattle.std.specs.Option.{option_or}
 use borrow.Author.Differences.{ints}
 use Rattle.std.proofs.lemmas.Bool.{eqb-true, cases_lt}
 use Rattle.std.proofs.lemmas.Bool.Decides.{nat_tests}
@@ -13,7 +14,7 @@ use Rattle.model.specs.Drafts.{drafted, blank, bad_row}
 use Rattle.model.proofs.RowLimits.{row_at_lem, within_of_fits}
 use Rattle.narrower.specs.declared.faults.ProposalFault.{ProposalFault}
 use Rattle.narrower.specs.declared.faults.ProposalFault.TheVariants.{WeightCount, AllZero}
-use Rattle.weighing.specs.Refusals.{weight_limit, weight_fits, heavy_at, all_zero, or_else, weights_at, weights_refusal, has_end, absent_at, end_at, weigh_refusal}
+use Rattle.weighing.specs.Refusals.{weight_limit, weight_fits, heavy_at, all_zero, weights_at, weights_refusal, has_end, absent_at, end_at, weigh_refusal}
 
 -- a weight within its limit, and a row of size n within its limits that has the end which the weight needs
 pub record Fitting (n : ℕ) (w : ℤ) (r : Row) : Type 0 where
@@ -45,9 +46,9 @@ unfound_at (suc n) ok h k l =
     ⊎_elim (λ m. unfound_at n ok p.0 k m) (λ m. let e : k ≡ n = omega arith in ap ok e ∙ p.1) (cases_lt k n)
 
 -- neither of two is there
-or_none : {A : Type 0} (o p : Option A) → or_else o p ≡ None → (o ≡ None) × (p ≡ None)
-or_none None p h = (refl, h)
-or_none (Some a) p h = let z : ◌≡◌ {A = ℕ} 0 1 = cc in absurd (omega arith)
+pub neither : {A : Type 0} (o p : Option A) → option_or o p ≡ None → (o ≡ None) × (p ≡ None)
+neither None p h = (refl, h)
+neither (Some a) p h = let z : ◌≡◌ {A = ℕ} 0 1 = cc in absurd (omega arith)
 
 no_heavy : (o : Option ℕ) → weights_at o ≡ None → o ≡ None
 no_heavy None h = refl
@@ -64,9 +65,9 @@ right_length false o h = let z : ◌≡◌ {A = ℕ} 0 1 = cc in absurd (omega a
 module _ (ws : List ℤ) (ds : List RowDraft) (h : weigh_refusal ws ds ≡ None) where
   -- nothing is refused by 15, and nothing by 16
   unrefused : (weights_refusal (length ds) ws ≡ None) × (end_at (absent_at ws ds) ≡ None)
-  unrefused = or_none (weights_refusal (length ds) ws) (end_at (absent_at ws ds)) h
+  unrefused = neither (weights_refusal (length ds) ws) (end_at (absent_at ws ds)) h
 
-  counted : (eqb (length ws) (length ds) ≡ true) × (or_else (weights_at (heavy_at ws)) (cond (all_zero ws) (Some AllZero) None) ≡ None)
+  counted : (eqb (length ws) (length ds) ≡ true) × (option_or (weights_at (heavy_at ws)) (cond (all_zero ws) (Some AllZero) None) ≡ None)
   counted = right_length (eqb (length ws) (length ds)) _ unrefused.0
 
   -- a weight for each row
@@ -75,7 +76,7 @@ module _ (ws : List ℤ) (ds : List RowDraft) (h : weigh_refusal ws ds ≡ None)
 
   -- none beyond its limit
   none_heavy : heavy_at ws ≡ None
-  none_heavy = no_heavy _ (or_none (weights_at (heavy_at ws)) _ counted.1).0
+  none_heavy = no_heavy _ (neither (weights_at (heavy_at ws)) _ counted.1).0
 
   -- each with the end that it needs
   none_absent : absent_at ws ds ≡ None

@@ -1,5 +1,6 @@
 -- What is refused of a weight list for rows.
 use Rattle.std.specs.Prelude.{ℕ, zero, suc, Bool, true, false, cond, ◌&&◌, List, length, ℤ, pos, negsuc, neg_ℤ, Some, None, Option, ◌==◌, int_le, slice_index_or}
+use Rattle.std.specs.Option.{option_or}
 use Rattle.numbers.specs.Division.{is_zero}
 use Rattle.model.specs.declared.draft.RowDraft.{RowDraft}
 use Rattle.model.specs.Firsts.{every, first_below}
@@ -24,11 +25,6 @@ heavy_at ws = first_below (length ws) (λ k. weight_fits (slice_index_or ws k (p
 abbrev pub all_zero : List ℤ → Bool
 all_zero ws = every (length ws) (λ k. is_zero (slice_index_or ws k (pos 0)))
 
--- the first place, or else what the rest says
-abbrev pub or_else : {A : Type 0} → Option A → Option A → Option A
-or_else None b = b
-or_else (Some a) b = Some a
-
 -- a weight beyond its limit is refused at its place
 abbrev pub weights_at : Option ℕ → Option ProposalFault
 weights_at None = None
@@ -36,7 +32,7 @@ weights_at (Some k) = Some (Weights k)
 
 -- refusal 15 for m rows: of a list of another length, then of the first weight beyond its limit, then where all are 0
 abbrev pub weights_refusal : ℕ → List ℤ → Option ProposalFault
-weights_refusal m ws = cond (length ws == m) (or_else (weights_at (heavy_at ws)) (cond (all_zero ws) (Some AllZero) None)) (Some WeightCount)
+weights_refusal m ws = cond (length ws == m) (option_or (weights_at (heavy_at ws)) (cond (all_zero ws) (Some AllZero) None)) (Some WeightCount)
 
 -- an end is present
 abbrev pub present : Option ℤ → Bool
@@ -60,4 +56,4 @@ end_at (Some k) = Some (AbsentEnd k)
 
 -- what is refused of the weights: 15, then 16
 abbrev pub weigh_refusal : List ℤ → List RowDraft → Option ProposalFault
-weigh_refusal ws ds = or_else (weights_refusal (length ds) ws) (end_at (absent_at ws ds))
+weigh_refusal ws ds = option_or (weights_refusal (length ds) ws) (end_at (absent_at ws ds))

@@ -8,6 +8,11 @@ abbrev pub or_zero : Option ℤ → ℤ
 or_zero None = pos 0
 or_zero (Some a) = a
 
+-- the end of a row's right side that a weight takes: the low one for a negative weight, else the high one
+abbrev pub taken_end : ℤ → Row → Option ℤ
+taken_end (pos w) r = r.high
+taken_end (negsuc w) r = r.low
+
 -- the end that a weight takes: the low one if the weight is negative, else the high one
 abbrev pub end_for : ℤ → Row → ℤ
 end_for (pos w) r = or_zero r.high

@@ -2,6 +2,7 @@
 #![tactic(auto)]
 
 pub mod coefficient;
+mod ends;
 pub mod marks;
 mod refusals;
 mod totals;

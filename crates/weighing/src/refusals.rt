@@ -5,6 +5,7 @@ ghost use Rattle.model.specs.Drafts.{drafted};
 ghost use Rattle.narrower.specs.Faults.{refusal_of};
 ghost use Rattle.weighing.specs.Refusals.{weight_fits, heavy_at, all_zero, weights_refusal, has_end, absent_at, weigh_refusal};
 
+use crate::ends::taken_end;
 use model::draft::RowDraft;
 use narrower::faults::ProposalFault;
 
@@ -18,6 +19,7 @@ fn is_light(weight: i64) -> bool
 }
 
 /// The place, from 1, of the first weight beyond its limit.
+// A place or none, and no Result: which refusal it makes, and whether it does, is for the caller to say.
 fn first_heavy(weights: &[i64]) -> Option<usize>
     ensures { result ≡ heavy_at weights.now }
 {
@@ -53,16 +55,11 @@ fn check_weights(weights: &[i64], count: usize) -> Result<(), ProposalFault>
 fn has_end(weight: i64, row: &RowDraft) -> bool
     ensures { result ≡ has_end weight (drafted row.now) }
 {
-    if weight > 0 {
-        row.high.is_some()
-    } else if weight < 0 {
-        row.low.is_some()
-    } else {
-        true
-    }
+    weight == 0 || taken_end(weight, row).is_some()
 }
 
 /// The place, from 1, of the first weight that needs an absent end.
+// A place or none, and no Result: which refusal it makes, and whether it does, is for the caller to say.
 fn first_absent(weights: &[i64], rows: &[RowDraft]) -> Option<usize>
     requires { length weights.now ≡ length rows.now }
     ensures { result ≡ absent_at weights.now rows.now }
@@ -79,6 +76,7 @@ pub(crate) fn check(weights: &[i64], rows: &[RowDraft]) -> Result<(), ProposalFa
     ensures { refusal_of result ≡ weigh_refusal weights.now rows.now }
 {
     check_weights(weights, rows.len())?;
+    // A match: `map_or(Ok(()), ..)` would put what passes into the place of what is missing.
     match first_absent(weights, rows) {
         Some(place) => Err(ProposalFault::AbsentEnd(place)),
         None => Ok(()),

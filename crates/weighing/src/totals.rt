@@ -8,6 +8,7 @@ ghost use Rattle.weighing.specs.Weights.{end_for, bound_of};
 ghost use Rattle.weighing.specs.Weighed.{weighed, Holds};
 
 use crate::coefficient::Coefficient;
+use crate::ends::taken_end;
 use crate::weighted::Weighted;
 use model::draft::RowDraft;
 use model::span::Span;
@@ -18,8 +19,7 @@ use std::array;
 fn end_for(weight: i64, row: &RowDraft) -> i64
     ensures { result ≡ end_for weight (drafted row.now) }
 {
-    let end = if weight < 0 { row.low } else { row.high };
-    end.unwrap_or(0)
+    taken_end(weight, row).unwrap_or(0)
 }
 
 impl Weighted<'_> {
@@ -30,13 +30,13 @@ impl Weighted<'_> {
         if !which.is_within(self.held.size) {
             return Span::default();
         }
-        let (low, high) = self
+        let sum = self
             .weights
             .iter()
             .zip(self.held.rows)
             .map(|(weight, row)| product_range((*weight, *weight), which.of(row)))
             .fold((0, 0), sum_range);
-        Span { low, high }
+        Span::from(sum)
     }
 
     /// The weighted sums of the pairs of coordinate `i` with those after it.
