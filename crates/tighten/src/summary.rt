@@ -42,10 +42,7 @@ fn width(span: &Span) -> i64 {
 
 /// The sum of the widths.
 fn widths(spans: &[Span]) -> i64 {
-    spans
-        .iter()
-        .map(width)
-        .fold(0, i64::saturating_add)
+    spans.iter().map(width).fold(0, i64::saturating_add)
 }
 
 /// How many calls there were, how many were refused, and how the placement is left.
