@@ -55,6 +55,7 @@ pub enum NarrowFault {
 }
 
 /// What a factoring refuses, with the step and its coordinate.
+// The two by place, as in `Place::Step`: a struct for them would be taken apart wherever it is told.
 #[derive(Clone, Copy, PartialEq, Eq, Debug)]
 pub enum FactorFault {
     /// 18: the pivot is not positive.

@@ -46,7 +46,7 @@ impl<A: Narrower, B: Narrower> Narrower for Pair<A, B> {
     }
 
     fn narrow(&mut self, spans: &mut [Span]) -> Result<Answer, NarrowFault> {
-        // These three lines open each layer. One function for all would take the rest as a closure over `self`, and be no plainer.
+        // These three lines open each of the layers. One function for all would take the rest as a closure over `self`, and be no plainer.
         check_run(self.size(), spans)?;
         let mut copy = copy_of(spans);
         let part = &mut copy[..spans.len()];

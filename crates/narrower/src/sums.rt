@@ -11,6 +11,8 @@ ghost use Rattle.narrower.specs.Cuts.{its_row, its_box, with_of};
 use crate::on_box::RowOnBox;
 use numbers::ranges::{Range, product_range, remaining_range, sum_range};
 
+// A chain for each sum: one function over the term would take it as a closure, with clauses about it, and be no shorter.
+
 impl RowOnBox<'_> {
     /// The terms with a square.
     fn squares(&self) -> Range

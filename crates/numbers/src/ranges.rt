@@ -81,6 +81,7 @@ pub fn quotient_range(a: Range, b: Range) -> Option<Range>
 }
 
 /// What two ranges share; none where they share nothing.
+// Tried: with `then_some` in place of the `if`, the value and the law stay open.
 pub fn meeting(a: Range, b: Range) -> Option<Range>
     ensures value { result ≡ shared a b }
     ensures law { SharedHoldsWhatBothHold }

@@ -68,6 +68,7 @@ impl Placement {
 
     /// Checks one weight for each row, from -64 to 64 and not all 0, and an order of coordinates counted from 1, and writes the
     /// certificate of the weighted sum in that order. A refusal leaves the certificate as it was.
+    // Weights and order each by itself: that is the call that is asked of this library.
     pub fn check(
         &self,
         weights: &[i64],

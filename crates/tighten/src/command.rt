@@ -121,6 +121,7 @@ fn parse_below_star<'a>(words: &mut Words<'a>) -> Result<(Layers, &'a str), Wron
 }
 
 /// The layers of which `rounds` is the outermost, and the word after them.
+// Beside the parser for `star`: the two read their numbers in other orders, and one with both as closures would be no shorter.
 fn parse_below_rounds<'a>(words: &mut Words<'a>) -> Result<(Layers, &'a str), Wrong<'a>> {
     let rounds = parse_rounds(words)?;
     match words.expect("what to narrow by")? {

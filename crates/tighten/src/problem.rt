@@ -102,12 +102,10 @@ impl Problem {
     {
         let size = self.size.ok_or(Wrong::NoSize)?;
         let most = size.min(MOST_COORDINATES);
-        let i = ordinal(given);
-        if i > 0 && i <= most {
-            Ok(i - 1)
-        } else {
-            Err(Wrong::NoCoordinate(given, most))
-        }
+        ordinal(given)
+            .checked_sub(1)
+            .filter(|i| *i < most)
+            .ok_or(Wrong::NoCoordinate(given, most))
     }
 
     fn set_span<'a>(&mut self, i: i64, span: Span) -> Result<(), Wrong<'a>>
