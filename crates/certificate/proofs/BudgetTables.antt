@@ -21,7 +21,7 @@ use Rattle.certificate.proofs.SmallNumbers.{Small, mul_small, add_small, scale_s
 
 -- what is read beyond the end of a table
 abbrev pub no_step : StepTable
-no_step = record { axis = 0; pivot = pos 0; slopes = []; shift = pos 0; slacks = []; slack0 = (pos 0, pos 0); gaps = []; gaps0 = [] }
+no_step = record { cut = record { axis = 0; pivot = pos 0; slopes = []; shift = pos 0 }; slacks = []; slack0 = (pos 0, pos 0); gaps = []; gaps0 = [] }
 
 -- one more step in a sum over the first ones
 steps_more : (f : Step → ℤ) (xs : List StepTable) (k : ℕ) → k < length xs → steps_sum (steps_at (take (suc k) xs)) f ≡ steps_sum (steps_at (take k xs)) f +ℤ f (step_at (get_or xs k no_step))

@@ -62,17 +62,17 @@ abbrev pub slope_by : ℤ × Span → Range
 slope_by p = held_range (times (just p.0) (ends p.1))
 
 -- the slopes of a table, each times its coordinate, added as a chain of iterators adds them
-module _ (t : StepTable) (X : List Span) (q : Cuttable (length X) (step_at t) X) (many : length X ≤ length t.slopes) where
+module _ (t : StepTable) (X : List Span) (q : Cuttable (length X) (step_at t) X) (many : length X ≤ length t.cut.slopes) where
   abbrev terms : List Range
-  terms = map slope_by (zip t.slopes X)
+  terms = map slope_by (zip t.cut.slopes X)
 
   terms_long : length terms ≡ length X
-  terms_long = length-map (zip t.slopes X) slope_by ∙ length-zip t.slopes X ∙ omega arith
+  terms_long = length-map (zip t.cut.slopes X) slope_by ∙ length-zip t.cut.slopes X ∙ omega arith
 
   first_added : (k : ℕ) → k ≤ length X → fold (λ a r. held_range (plus a r)) (pos 0, pos 0) (take k terms) ≡ sum_r k (slope_term (step_at t) X)
   first_added zero l = refl
   first_added (suc k) l =
-      let e = get_or-map slope_by (zip t.slopes X) k (pos 0, zero_span) (pos 0, pos 0) (omega (arith, length-zip t.slopes X)) ∙ ap slope_by (get_or-zip t.slopes X k (pos 0, zero_span) (omega arith) (omega arith)) in
+      let e = get_or-map slope_by (zip t.cut.slopes X) k (pos 0, zero_span) (pos 0, pos 0) (omega (arith, length-zip t.cut.slopes X)) ∙ ap slope_by (get_or-zip t.cut.slopes X k (pos 0, zero_span) (omega arith) (omega arith)) in
       rw (← add-one k)
       (slope_more q k (omega arith) _ _ _ _ (first_added k (omega arith)) refl e (fold_more (λ a r. held_range (plus a r)) (pos 0, pos 0) terms k (pos 0, pos 0) (omega (arith, terms_long)))
       ∙ sum_r_more k (slope_term (step_at t) X))

@@ -25,8 +25,9 @@ impl HeldBox<'_> {
         requires { SmallCharge (length self.spans.now) (step_at step.now) }
         ensures { result ≡ step_charge (length self.entry.spans.now) self.entry.spans.now (step_at step.now) }
     {
-        let slacks = self.slacks(&step.slacks, step.axis);
-        let slack0 = single_low(step.slack0, self.spans[step.axis].ends());
+        let axis = step.cut.axis;
+        let slacks = self.slacks(&step.slacks, axis);
+        let slack0 = single_low(step.slack0, self.spans[axis].ends());
         let gaps = self.pairs(&step.gaps);
         let gaps0 = self.singles(&step.gaps0);
         2 * (slacks + slack0 + gaps + gaps0)
@@ -65,10 +66,8 @@ fn step_gain(step: &StepTable) -> i64
     requires { SmallGain (step_at step.now) }
     ensures { result ≡ step_gain (step_at step.now) }
 {
-    up_by(
-        step.pivot * step.shift * step.shift,
-        Positive { value: 256 },
-    )
+    let cut = &step.cut;
+    up_by(cut.pivot * cut.shift * cut.shift, Positive { value: 256 })
 }
 
 /// What the squares of steps have too much.

@@ -8,7 +8,7 @@ ghost use Rattle.certificate.specs.Budgets.{root_of};
 ghost use Rattle.certificate.specs.Maps.{slopes_range, cut_of, narrow_by, backward};
 ghost use Rattle.certificate.specs.Cutting.{Cuttable};
 
-use crate::cut::Cut;
+use crate::step_on_box::StepOnBox;
 use factoring::factored::Factored;
 use factoring::tables::StepTable;
 use model::span::Span;
@@ -28,12 +28,13 @@ fn root_of(budget: i64, pivot: Positive) -> i64
     root_up(256 * ratio) as i64
 }
 
-impl Cut<'_> {
+impl StepOnBox<'_> {
     /// The range of Σ slope_j·x_j over the box.
     fn slopes_range(self) -> Range
         ensures { result ≡ slopes_range (length self.entry.spans.now) (step_at self.entry.step.now) self.entry.spans.now }
     {
         self.step
+            .cut
             .slopes
             .iter()
             .zip(self.spans)
@@ -47,10 +48,10 @@ impl Cut<'_> {
     {
         let slopes = self.slopes_range();
         let pivot = Positive {
-            value: self.step.pivot,
+            value: self.step.cut.pivot,
         };
         let reach = 4096 * root_of(budget, pivot);
-        let middle = -4096 * self.step.shift;
+        let middle = -4096 * self.step.cut.shift;
         let ends = difference_range((middle - reach, middle + reach), slopes);
         let by = Positive { value: 65536 };
         (down_by(ends.0, by), up_by(ends.1, by))
@@ -62,8 +63,9 @@ fn narrow_by(step: &StepTable, spans: &mut [Span], budget: i64) -> Option<()>
     requires { Cuttable (length spans.old) (step_at step.now) spans.old }
     ensures { CutTo (narrow_by (length spans.old) budget (step_at step.now) spans.old) result spans.new }
 {
-    let cut = Cut { step, spans }.range(budget);
-    spans[step.axis] = Span::from(meeting(spans[step.axis].ends(), cut)?);
+    let axis = step.cut.axis;
+    let cut = StepOnBox { step, spans }.range(budget);
+    spans[axis] = Span::from(meeting(spans[axis].ends(), cut)?);
     Some(())
 }
 

@@ -6,6 +6,6 @@ mod budget;
 pub mod calls;
 pub mod certificate;
 mod charges;
-mod cut;
 mod cuts;
 mod held_box;
+mod step_on_box;

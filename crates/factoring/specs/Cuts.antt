@@ -1,9 +1,9 @@
 -- What the inner functions of a factoring take, and what they answer.
 use Rattle.std.specs.Prelude.{◌≡◌, ℕ, suc, ◌<◌, ◌≤◌, true, false, List, take, pos, Some, None, Ok, Err, Result, int_lt}
 use Rattle.narrower.specs.declared.faults.FactorFault.{FactorFault}
+use Rattle.factoring.specs.declared.tables.Cut.{Cut}
 use Rattle.factoring.specs.declared.tables.FormTable.{FormTable}
 use Rattle.factoring.specs.declared.tables.StepTable.{StepTable}
-use Rattle.factoring.specs.declared.cuts.Cut.{Cut}
 use Rattle.factoring.specs.Forms.{Form}
 use Rattle.factoring.specs.Steps.{slope_of, shift_of, step_of, next_form}
 use Rattle.factoring.specs.Factoring.{steep, step_fault, Factors}

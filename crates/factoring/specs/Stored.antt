@@ -29,10 +29,10 @@ form_at t = record { h = λ j k. number_at (slice_index_or t.entries j []) k; g 
 -- the step of a table
 abbrev pub step_at : StepTable → Step
 step_at s = record {
-  axis = s.axis;
-  pivot = s.pivot;
-  slope = number_at s.slopes;
-  shift = s.shift;
+  axis = s.cut.axis;
+  pivot = s.cut.pivot;
+  slope = number_at s.cut.slopes;
+  shift = s.cut.shift;
   slack = range_at s.slacks;
   slack0 = s.slack0;
   gap = λ j k. range_at (slice_index_or s.gaps j []) k;

@@ -9,19 +9,10 @@ ghost use Rattle.factoring.specs.Cuts.{Ready, Cuts};
 ghost use Rattle.factoring.specs.Taken.{step_taken};
 
 use crate::parts::{limited, product, rounded};
-use crate::tables::table;
+use crate::tables::{Cut, table};
 use crate::taking::Taking;
 use crate::view::FormView;
 use numbers::positive::Positive;
-
-/// The square that a step takes off: pivot·(x_axis + Σ slope_j·x_j / 65,536 + shift / 16)².
-#[derive(Clone, Copy)]
-pub(crate) struct Cut {
-    pub(crate) axis: usize,
-    pub(crate) pivot: i64,
-    pub(crate) slopes: [i64; 9],
-    pub(crate) shift: i64,
-}
 
 /// 65,536 times `entry / pivot`, to the nearest.
 fn slope(entry: i64, pivot: Positive) -> i64

@@ -17,10 +17,7 @@ impl Taking<'_> {
         ensures { same_step self.now.view.size (step_at result) (step_taken self.now) ≡ true }
     {
         StepTable {
-            axis: self.cut.axis,
-            pivot: self.cut.pivot,
-            slopes: self.cut.slopes,
-            shift: self.cut.shift,
+            cut: self.cut,
             slacks: self.slacks(),
             slack0: self.slack_of_single(),
             gaps: self.gaps(),

@@ -14,13 +14,19 @@ pub struct FormTable {
     pub singles: [i64; 9],
 }
 
-/// One step: the square that it takes off, pivot·(x_axis + Σ slope_j·x_j / 65,536 + shift / 16)², and what its roundings leave over.
+/// The square that a step takes off: pivot·(x_axis + Σ slope_j·x_j / 65,536 + shift / 16)².
 #[derive(Clone, Copy, Default)]
-pub struct StepTable {
+pub struct Cut {
     pub axis: usize,
     pub pivot: i64,
     pub slopes: [i64; 9],
     pub shift: i64,
+}
+
+/// One step: its cut, and what the roundings leave over.
+#[derive(Clone, Copy, Default)]
+pub struct StepTable {
+    pub cut: Cut,
     pub slacks: [Range; 9],
     pub slack0: Range,
     pub gaps: [[Range; 9]; 9],

@@ -3,7 +3,7 @@
 ghost use Rattle.factoring.specs.Stored.{form_at};
 ghost use Rattle.factoring.specs.Cuts.{Ready, Cuts};
 
-use crate::cuts::Cut;
+use crate::tables::Cut;
 use crate::view::FormView;
 
 /// A step that is being taken: the form, whose row at the cut's axis passed the first two tests, and the cut.

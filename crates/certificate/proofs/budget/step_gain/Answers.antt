@@ -7,11 +7,11 @@ use Rattle.certificate.proofs.BudgetTables.{itself, gain_size_lem}
 use Rattle.certificate.proofs.SmallNumbers.{small_fits, kept, mul_small}
 use Rattle.certificate.proofs.budget.step_gain.Goals as goal
 
-pub overflow_mul-step : goal.overflow_mul-step
-overflow_mul-step c = small_fits (mul_small (kept (itself _ entry_limit c.requires.pivot) (lit≤ tt)) (kept (itself _ 65536 c.requires.shift) (lit≤ tt))) (lit≤ tt)
+pub overflow_mul-cut : goal.overflow_mul-cut
+overflow_mul-cut c = small_fits (mul_small (kept (itself _ entry_limit c.requires.pivot) (lit≤ tt)) (kept (itself _ 65536 c.requires.shift) (lit≤ tt))) (lit≤ tt)
 
-pub overflow_mul-step-2 : goal.overflow_mul-step-2
-overflow_mul-step-2 c =
+pub overflow_mul-cut-2 : goal.overflow_mul-cut-2
+overflow_mul-cut-2 c =
     let shift = kept (itself _ 65536 c.requires.shift) (lit≤ tt) in
     small_fits (mul_small (kept (mul_small (kept (itself _ entry_limit c.requires.pivot) (lit≤ tt)) shift) (lit≤ tt)) shift) (lit≤ tt)
 

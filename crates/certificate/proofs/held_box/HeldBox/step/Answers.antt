@@ -12,12 +12,12 @@ use Rattle.certificate.proofs.held_box.HeldBox.step.Goals as goal
 
 -- each part, with its size
 module _ (c : goal.After-singles-gaps0) where
-  slacks : Small c.slacks-slacks.result (slacks_charge (length c.args.self.spans.now) c.args.self.spans.now c.args.step.now.axis (step_at c.args.step.now).slack) (9 * (8192 * 16777216))
+  slacks : Small c.slacks-slacks.result (slacks_charge (length c.args.self.spans.now) c.args.self.spans.now c.args.step.now.cut.axis (step_at c.args.step.now).slack) (9 * (8192 * 16777216))
   slacks = record { value = c.slacks-slacks.ensures; size = slacks_charge_size _ 8192 _ _ _ c.args.self.is_box c.requires.axis c.requires.slacks }
 
-  slack0 : Small c.single_low-slack0.result (times c.args.step.now.slack0 (at c.args.self.spans.now c.args.step.now.axis)).0 (singles_bound 9 * 4096)
+  slack0 : Small c.single_low-slack0.result (times c.args.step.now.slack0 (at c.args.self.spans.now c.args.step.now.cut.axis)).0 (singles_bound 9 * 4096)
   slack0 =
-      let s = held_term c.args.step.now.slack0 (at c.args.self.spans.now c.args.step.now.axis) (singles_bound 9) 4096 c.requires.slack0 (box_spans _ _ c.args.self.is_box c.args.step.now.axis c.requires.axis) (lit≤ tt) in
+      let s = held_term c.args.step.now.slack0 (at c.args.self.spans.now c.args.step.now.cut.axis) (singles_bound 9) 4096 c.requires.slack0 (box_spans _ _ c.args.self.is_box c.args.step.now.cut.axis c.requires.axis) (lit≤ tt) in
       record { value = c.single_low-slack0.ensures ∙ ap (λ (x : Range). (held_range (times c.args.step.now.slack0 x)).0) c.ends.ensures ∙ s.value; size = s.size }
 
   gaps : Small c.pairs-gaps.result (pairs_charge (length c.args.self.spans.now) c.args.self.spans.now (step_at c.args.step.now).gap) (36 * (1 * 16777216))

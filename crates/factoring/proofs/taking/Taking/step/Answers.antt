@@ -1,7 +1,6 @@
 -- The step is the definition's.
 use Rattle.std.proofs.Common.{refl, arith}
 use Rattle.factoring.specs.Taken.{step_taken}
-use Rattle.factoring.proofs.StepBounds.{pivot_back, shift_back}
 use Rattle.factoring.proofs.StoredTests.{decides_step}
 use Rattle.factoring.proofs.taking.Taking.step.Goals as goal
 
@@ -10,9 +9,9 @@ returns c =
     let t = c.args.self.now in
     (decides_step t.view.size _ (step_taken t)).1 (record {
       axis = refl;
-      pivot = pivot_back t;
+      pivot = t.cuts.pivot;
       slope = t.cuts.slope;
-      shift = shift_back t;
+      shift = t.cuts.shift;
       slack = c.slacks.ensures;
       slack0 = c.slack_of_single.ensures;
       gap = λ j k l m. c.gaps.ensures j k (omega arith) m;

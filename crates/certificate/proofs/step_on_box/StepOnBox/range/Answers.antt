@@ -7,48 +7,48 @@ use Rattle.numbers.proofs.Magnitudes.{abs-over}
 use Rattle.numbers.proofs.Held.{same_ends}
 use Rattle.certificate.specs.Budgets.{root_of}
 use Rattle.certificate.proofs.CutRanges.{root_size, cut_is}
-use Rattle.certificate.proofs.cut.Cut.range.Goals as goal
-use Rattle.certificate.proofs.cut.Cut.range.Goals.{After-root_of-reach}
+use Rattle.certificate.proofs.step_on_box.StepOnBox.range.Goals as goal
+use Rattle.certificate.proofs.step_on_box.StepOnBox.range.Goals.{After-root_of-reach}
 
 -- the root of the code is that of the definition
-root : (c : After-root_of-reach) → c.root_of-reach.result ≡ root_of c.args.budget c.args.self.step.now.pivot
+root : (c : After-root_of-reach) → c.root_of-reach.result ≡ root_of c.args.budget c.args.self.step.now.cut.pivot
 root c =
-    let f : SFits w64 c.args.self.step.now.pivot = search rules in
-    c.root_of-reach.ensures ∙ ap₂ root_of (to_z-of_z w64 c.args.budget c.ranges.budget) (to_z-of_z w64 c.args.self.step.now.pivot f)
+    let f : SFits w64 c.args.self.step.now.cut.pivot = search rules in
+    c.root_of-reach.ensures ∙ ap₂ root_of (to_z-of_z w64 c.args.budget c.ranges.budget) (to_z-of_z w64 c.args.self.step.now.cut.pivot f)
 
 pub overflow_mul-reach : goal.overflow_mul-reach
 overflow_mul-reach c =
-    let s = root_size c.args.budget c.args.self.step.now.pivot in
+    let s = root_size c.args.budget c.args.self.step.now.cut.pivot in
     let e = root (goal.at.overflow_mul-reach c).After-root_of-reach in
     omega (arith, ints)
 
 pub overflow_mul-middle : goal.overflow_mul-middle
 overflow_mul-middle c =
-    let o = abs-over c.args.self.step.now.shift in
+    let o = abs-over c.args.self.step.now.cut.shift in
     let s = c.args.self.cuttable.step.shift in
     omega (arith, ints)
 
 pub overflow_sub-middle : goal.overflow_sub-middle
 overflow_sub-middle c =
-    let o = abs-over c.args.self.step.now.shift in
+    let o = abs-over c.args.self.step.now.cut.shift in
     let s = c.args.self.cuttable.step.shift in
-    let t = root_size c.args.budget c.args.self.step.now.pivot in
+    let t = root_size c.args.budget c.args.self.step.now.cut.pivot in
     let e = root (goal.at.overflow_sub-middle c).After-root_of-reach in
     omega (arith, ints)
 
 pub overflow_add-middle : goal.overflow_add-middle
 overflow_add-middle c =
-    let o = abs-over c.args.self.step.now.shift in
+    let o = abs-over c.args.self.step.now.cut.shift in
     let s = c.args.self.cuttable.step.shift in
-    let t = root_size c.args.budget c.args.self.step.now.pivot in
+    let t = root_size c.args.budget c.args.self.step.now.cut.pivot in
     let e = root (goal.at.overflow_add-middle c).After-root_of-reach in
     omega (arith, ints)
 
 pub returns : goal.returns
 returns c =
-    let o = abs-over c.args.self.step.now.shift in
+    let o = abs-over c.args.self.step.now.cut.shift in
     let s = c.args.self.cuttable.step.shift in
-    let t = root_size c.args.budget c.args.self.step.now.pivot in
+    let t = root_size c.args.budget c.args.self.step.now.cut.pivot in
     let e = root (goal.at.returns c).After-root_of-reach in
     let f0 : SFits w64 c.difference_range-ends.result.0 = search rules in
     let f1 : SFits w64 c.difference_range-ends.result.1 = search rules in

@@ -1,4 +1,4 @@
-//! A step that cuts a box.
+//! A step on a box that it cuts.
 
 ghost use Rattle.std.specs.Prelude.{length};
 ghost use Rattle.factoring.specs.Stored.{step_at};
@@ -9,7 +9,7 @@ use model::span::Span;
 
 /// A step, and a box of as many coordinates, one of which the step's square cuts.
 #[derive(Clone, Copy)]
-pub(crate) struct Cut<'a> {
+pub(crate) struct StepOnBox<'a> {
     pub(crate) step: &'a StepTable,
     pub(crate) spans: &'a [Span],
     ghost cuttable: { Cuttable (length spans.now) (step_at step.now) spans.now },
