@@ -9,7 +9,7 @@ use Rattle.model.specs.Boxes.{IsBox, bad_span, padded}
 use Rattle.model.specs.Rows.{size_fits}
 use Rattle.model.specs.Drafts.{bad_row}
 use Rattle.model.proofs.Boxes.{box_of_unbad}
-use Rattle.model.proofs.Same.{take-padded}
+use Rattle.narrower.proofs.Answering.{copy_taken}
 use Rattle.narrower.specs.declared.faults.PlacementFault.TheVariants.{Size, TooManyRows}
 use Rattle.placement.specs.Makes.{at_row, at_span, contents_refusal}
 
@@ -50,6 +50,4 @@ module _ (n : ℕ) (X : List Span) (ds : List RowDraft) (free : contents_refusal
 
   -- the copy of the run begins with it
   pub copy_begins : (S : List Span) → S ≡ padded X → take n S ≡ X
-  copy_begins S e =
-      let b = box_made in
-      ap (take n) e ∙ ap (λ m. take m (padded X)) (sym b.long) ∙ take-padded X (omega (arith, b.long, b.few))
+  copy_begins S e = let b = box_made in ap (λ m. take m S) (sym b.long) ∙ copy_taken X S b e
