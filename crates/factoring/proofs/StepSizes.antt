@@ -17,7 +17,7 @@ use Rattle.model.specs.Sums.{sums_fit}
 use Rattle.model.proofs.Firsts.{decides_every}
 use Rattle.model.proofs.Boxes.{decides_within}
 use Rattle.factoring.specs.Forms.{Form, form_of, middle}
-use Rattle.factoring.specs.Steps.{clamped, around, gap_of, slope_of, shift_of, step_of, next_form}
+use Rattle.factoring.specs.Steps.{Step, clamped, around, gap_of, slope_of, shift_of, step_of, next_form}
 use Rattle.factoring.specs.Factoring.{entry_limit, outgrows, step_fault, factor}
 use Rattle.factoring.specs.Sizes.{SmallSums, singles_bound, SizedForm, SizedStep, SizedSteps, StepsStaySmall, FactorsStaySmall}
 use Rattle.factoring.proofs.StepTests.{slope_within, clamped-within, none_any, outgrown_not, passed, thick, flat, OnOk, on_step}
@@ -37,6 +37,19 @@ pub sized_later : {n s t : ℕ} {f : Form} → SizedForm n s f → s ≤ t → S
 sized_later {n} {s} {t} {f} o l = record {
   entries = o.entries;
   singles = λ j k. at_most (f.g j) (singles_bound s) (singles_bound t) (o.singles j k) (singles_bound_mono s t l);
+}
+
+-- and so are a step's
+pub sized_step_later : {n s t : ℕ} {x : Step} → SizedStep n s x → s ≤ t → SizedStep n t x
+sized_step_later {n} {s} {t} {x} o l = let m = singles_bound_mono (suc s) (suc t) (omega arith) in record {
+  axis = o.axis;
+  pivot = o.pivot;
+  slopes = o.slopes;
+  shift = o.shift;
+  slacks = o.slacks;
+  slack0 = (at_most x.slack0.0 (singles_bound (suc s)) (singles_bound (suc t)) o.slack0.0 m, at_most x.slack0.1 (singles_bound (suc s)) (singles_bound (suc t)) o.slack0.1 m);
+  gaps = o.gaps;
+  gaps0 = o.gaps0;
 }
 
 -- ---- roundings

@@ -3,7 +3,7 @@
 ghost use Rattle.std.specs.Prelude.{◌≡◌, ◌<◌, ◌≤◌, length};
 ghost use Rattle.model.specs.Boxes.{ends, at, within};
 ghost use Rattle.model.specs.Firsts.{every};
-ghost use Rattle.model.specs.Rows.{pair_of, row_fits, column_fits, pairs_fit, end_fits, ends_ordered, side_fits};
+ghost use Rattle.model.specs.Rows.{pair_of, row_fits, squares_fit, column_fits, pairs_fit, singles_fit, end_fits, ends_ordered, side_fits};
 ghost use Rattle.model.specs.Drafts.{drafted, blank, row_of, bad_row};
 ghost use Rattle.model.specs.Laws.{FittingRowKeepsLimits};
 
@@ -41,13 +41,10 @@ impl RowDraft {
         ensures value { result ≡ row_fits (drafted self.now) }
         ensures law { FittingRowKeepsLimits }
     {
-        let n = self.size;
-        if n == 0 || n > MOST_COORDINATES {
+        if self.size == 0 || self.size > MOST_COORDINATES {
             return false;
         }
-        let squares = all_within(&self.squares[..n], SQUARE_LIMIT);
-        let singles = all_within(&self.singles[..n], SINGLE_LIMIT);
-        squares && pairs_fit(self) && singles && side_fits(self)
+        squares_fit(self) && pairs_fit(self) && singles_fit(self) && side_fits(self)
     }
 }
 
@@ -56,6 +53,21 @@ fn all_within(spans: &[Span], limit: u32) -> bool
     ensures { result ≡ every (length spans.now) (λ i. within limit (at spans.now i)) }
 {
     spans.iter().all(|s| s.is_within(limit))
+}
+
+// A function for each of the two: so a row's singles are looked at only where its squares and its pairs pass.
+fn squares_fit(row: &RowDraft) -> bool
+    requires { row.now.size ≤ 9 }
+    ensures { result ≡ squares_fit (drafted row.now) }
+{
+    all_within(&row.squares[..row.size], SQUARE_LIMIT)
+}
+
+fn singles_fit(row: &RowDraft) -> bool
+    requires { row.now.size ≤ 9 }
+    ensures { result ≡ singles_fit (drafted row.now) }
+{
+    all_within(&row.singles[..row.size], SINGLE_LIMIT)
 }
 
 fn column_fits(row: &RowDraft, j: usize) -> bool

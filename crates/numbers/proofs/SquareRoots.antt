@@ -1,7 +1,7 @@
 -- `root_up v` is the least s with s * s ≥ v, for v up to 2^40 (`specs/Roots.antt`).
-use Rattle.std.proofs.Common.{◌≡◌, ℕ, zero, suc, ◌+◌, ◌-◌, ◌*◌, ◌^◌, ◌<◌, ◌≤◌, Bool, true, false, cond, ◌⊎◌, eqb, ltb, pos, refl, subst, inl, inr, arith}
+use Rattle.std.proofs.Common.{◌≡◌, ℕ, zero, suc, ◌+◌, ◌-◌, ◌*◌, ◌^◌, ◌<◌, ◌≤◌, Bool, true, false, cond, eqb, ltb, pos, sym, refl, ap, ◌∙◌, subst, inl, inr, add-one, arith}
 use borrow.Author.Differences.{ints}
-use Rattle.std.proofs.lemmas.Bool.{ltb-true, ltb-false, eqb-true, eqb-false, cases_lt}
+use Rattle.std.proofs.lemmas.Bool.{lt-ltb, le-ltb, ltb-true, ltb-false, ne_eqb, eqb-true, eqb-false, cases_lt}
 use Rattle.numbers.proofs.Order.{mul_mono}
 use Rattle.numbers.specs.Roots.{root_limit, root_bits, root_up}
 use Rattle.numbers.specs.Laws.{RootIsLeast}
@@ -59,20 +59,43 @@ root_small v h = root_least v 1048576 h h
 pub root_is_least : RootIsLeast
 root_is_least v h = (root_high v h, λ t k. root_least v t h k)
 
--- ---- by the root rounded down
+-- ---- a loop over the bits
+
+-- one power of two is twice the one below
+pub power_step : (k : ℕ) → 0 < k → 2 ^ k ≡ 2 ^ (k - 1) + 2 ^ (k - 1)
+power_step zero h = absurd (omega arith)
+power_step (suc k) h = let e : suc k - 1 ≡ k = omega arith in rw e (twice k)
+
+-- a bit that stays below is set
+pub bit_set : (k v s t : ℕ) → 0 < k → (s + 2 ^ (k - 1)) * (s + 2 ^ (k - 1)) < v → root_bits k v s ≡ t → root_bits (k - 1) v (s + 2 ^ (k - 1)) ≡ t
+unfolding root_bits
+bit_set zero v s t h l e = absurd (omega arith)
+bit_set (suc k) v s t h l e =
+    let d : suc k - 1 ≡ k = omega arith in
+    let m : (s + 2 ^ k) * (s + 2 ^ k) < v = rw (← d) l in
+    rw d (ap (λ b. root_bits k v (cond b (s + 2 ^ k) s)) (sym (lt-ltb ((s + 2 ^ k) * (s + 2 ^ k)) v m)) ∙ e)
+
+-- a bit that does not is left out
+pub bit_kept : (k v s t : ℕ) → 0 < k → v ≤ (s + 2 ^ (k - 1)) * (s + 2 ^ (k - 1)) → root_bits k v s ≡ t → root_bits (k - 1) v s ≡ t
+unfolding root_bits
+bit_kept zero v s t h l e = absurd (omega arith)
+bit_kept (suc k) v s t h l e =
+    let d : suc k - 1 ≡ k = omega arith in
+    let m : v ≤ (s + 2 ^ k) * (s + 2 ^ k) = rw (← d) l in
+    rw d (ap (λ b. root_bits k v (cond b (s + 2 ^ k) s)) (sym (le-ltb ((s + 2 ^ k) * (s + 2 ^ k)) v m)) ∙ e)
 
 -- the root of 0
 pub root_of_none : root_up 0 ≡ 0
 unfolding root_up
 root_of_none = refl
 
--- one more than the root, rounded down, of the number before
-pub root_after : (v r : ℕ) → (v ≡ 0 → ⊥) → v ≤ root_limit → r * r ≤ v - 1 → v - 1 < (r + 1) * (r + 1) → r + 1 ≡ root_up v
-root_after v r n small below above = by (cases_lt r (root_up v)) (root_least v (r + 1) small (omega arith))
-  where
-    by : (r < root_up v) ⊎ (root_up v ≤ r) → root_up v ≤ r + 1 → r + 1 ≡ root_up v
-    by (inl l) h = omega arith
-    by (inr l) h =
-        let high = root_high v small in
-        let q = mul_mono {a = pos (root_up v)} {b = pos r} {c = pos (root_up v)} {d = pos r} (omega (arith, ints)) (omega (arith, ints)) (omega (arith, ints)) (omega (arith, ints)) in
-        absurd (omega (arith, ints))
+-- the root of any other number
+pub root_of_some : (v : ℕ) → (v ≡ 0 → ⊥) → root_up v ≡ root_bits 20 v 0 + 1
+unfolding root_up
+root_of_some v n = ap (λ b. elim b as (λ _. ℕ) [ true ↦ 0 | false ↦ suc (root_bits 20 v 0) ]) (ne_eqb v 0 n) ∙ sym (add-one (root_bits 20 v 0))
+
+-- no bit is left
+pub no_bits : (k v s t : ℕ) → k ≡ 0 → root_bits k v s ≡ t → s ≡ t
+unfolding root_bits
+no_bits zero v s t h e = e
+no_bits (suc k) v s t h e = absurd (omega arith)

@@ -1,6 +1,7 @@
 //! The weighted sums of rows.
 
 ghost use Rattle.std.specs.Prelude.{◌≡◌, map};
+ghost use Rattle.numbers.specs.Ranges.{held_range, just, times};
 ghost use Rattle.model.specs.Boxes.{ends};
 ghost use Rattle.model.specs.Drafts.{drafted};
 ghost use Rattle.weighing.specs.Coefficients.{coefficient_of};
@@ -12,7 +13,7 @@ use crate::ends::taken_end;
 use crate::weighted::Weighted;
 use model::draft::RowDraft;
 use model::span::Span;
-use numbers::ranges::{product_range, sum_range};
+use numbers::ranges::{Range, sum_range};
 use std::array;
 
 /// The end that the weight takes: the low one if it is negative, else the high one; 0 for an absent one.
@@ -20,6 +21,15 @@ fn end_for(weight: i64, row: &RowDraft) -> i64
     ensures { result ≡ end_for weight (drafted row.now) }
 {
     taken_end(weight, row).unwrap_or(0)
+}
+
+/// A weight times a coefficient: of the four end products two are the other two.
+fn part(weight: i64, coefficient: Range) -> Range
+    ensures { result ≡ held_range (times (just weight) coefficient) }
+{
+    let p = weight.saturating_mul(coefficient.0);
+    let q = weight.saturating_mul(coefficient.1);
+    (p.min(q), p.max(q))
 }
 
 impl Weighted<'_> {
@@ -34,7 +44,7 @@ impl Weighted<'_> {
             .weights
             .iter()
             .zip(self.held.rows)
-            .map(|(weight, row)| product_range((*weight, *weight), which.of(row)))
+            .map(|(weight, row)| part(*weight, which.of(row)))
             .fold((0, 0), sum_range);
         Span::from(sum)
     }
