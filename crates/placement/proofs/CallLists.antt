@@ -40,25 +40,21 @@ count_passed r k i R U T a b c d = (omega arith, omega arith)
 
 -- ---- walking
 
--- of the calls X those before the place i were made, which left L; y is what the next leaves of itself
-module _ {N : Type 0} (m : N → Narrowing) (X L : List (Call N)) (i : ℕ) (d y : Call N) (h : i < length L) (kept : drop i L ≡ drop i X) where
-  -- the next
-  abbrev x : Call N
-  x = get_or L i d
-
+-- of the calls X those before the place i were made, which left L; x is the next, and y what it leaves of itself
+module _ {N : Type 0} (m : N → Narrowing) (X L : List (Call N)) (i : ℕ) (x y : Call N) (h : i < length L) (read : x ≡ get_or L i x) (kept : drop i L ≡ drop i X) where
   -- the calls behind it are those handed over
   pub rest_kept : drop (i + 1) (set L i y) ≡ drop (i + 1) X
   rest_kept = drop-set-lt (i + 1) L i y (omega arith) ∙ sym (drop-drop 1 i L) ∙ ap (drop 1) kept ∙ drop-drop 1 i X
 
   -- it is the first of those left
   next_first : drop i X ≡ x ∷ drop (i + 1) X
-  next_first = sym kept ∙ drop_more L i d h ∙ ap (λ V. x ∷ V) (sym (drop-drop 1 i L) ∙ ap (drop 1) kept ∙ drop-drop 1 i X)
+  next_first = sym kept ∙ drop_more L i x h ∙ ap (λ v. v ∷ drop (i + 1) L) (sym read) ∙ ap (λ V. x ∷ V) (sym (drop-drop 1 i L) ∙ ap (drop 1) kept ∙ drop-drop 1 i X)
 
   -- it stands for the same act as before
   pub same_more : act_of m y ≡ act_of m x → map (act_of m) (set L i y) ≡ map (act_of m) L
   same_more e =
       map-set (act_of m) L i y ∙ ap (set (map (act_of m) L) i) e ∙ sym (map-set (act_of m) L i x)
-      ∙ ap (map (act_of m)) (set-get_or L i d)
+      ∙ ap (map (act_of m)) (ap (set L i) read ∙ set-get_or L i x)
 
   module _ (s t : State) (step : t ≡ after (act_of m x) s) where
     -- what is left to do from its state comes to what was left before

@@ -44,9 +44,10 @@ impl Placement {
         ensures witnesses { ThePromisesCanBeMet }
     {
         // Counted in the loop: a chain's closure would change the placement, and what it changes its caller does not know.
+        // By index, so that a range that leaves calls out is refused for those calls: over an iterator any other slice is, whatever it leaves out.
         let mut refused: usize = 0;
-        for call in calls.iter_mut() {
-            if !self.make_call(call) {
+        for i in 0..calls.len() {
+            if !self.make_call(&mut calls[i]) {
                 refused += 1;
             }
         }

@@ -5,16 +5,14 @@ use Rattle.placement.specs.Runs.{ends, refusals}
 use Rattle.placement.specs.Calls.{act_of, tells_of, tells_each}
 use Rattle.placement.proofs.placement.Placement.run.Given as goal
 
-abbrev pub invariant-loop-call : goal.invariant-loop-call
-invariant-loop-call g l =
+abbrev pub invariant-loop-i : goal.invariant-loop-i
+invariant-loop-i g l =
     let m = g.N.Narrower.means in
     let X = l.initial.calls in
-    let i = l.call-index in
-    record {
-      kept : drop i l.calls ≡ drop i X;
-      few : l.refused ≤ i;
-      counted : l.refused + refusals (state_of l.self) (map (act_of m) (drop i X)) ≡ refusals (state_of l.initial.self) (map (act_of m) X);
-      after : ends (state_of l.self) (map (act_of m) (drop i X)) ≡ ends (state_of l.initial.self) (map (act_of m) X);
-      same : map (act_of m) l.calls ≡ map (act_of m) X;
-      told : map tells_of (take i l.calls) ++ tells_each m (state_of l.self) (drop i X) ≡ tells_each m (state_of l.initial.self) X;
-    }
+    let i = l.i in
+    (drop i l.calls ≡ drop i X)
+    × (l.refused ≤ i)
+    × (l.refused + refusals (state_of l.self) (map (act_of m) (drop i X)) ≡ refusals (state_of l.initial.self) (map (act_of m) X))
+    × (ends (state_of l.self) (map (act_of m) (drop i X)) ≡ ends (state_of l.initial.self) (map (act_of m) X))
+    × (map (act_of m) l.calls ≡ map (act_of m) X)
+    × (map tells_of (take i l.calls) ++ tells_each m (state_of l.self) (drop i X) ≡ tells_each m (state_of l.initial.self) X)
